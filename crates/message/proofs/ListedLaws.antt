@@ -1,0 +1,64 @@
+-- Laws of a log in the two lent lists: its length, names and counts, its first block, and what storing a log leaves. Assumes nothing.
+use Prim.Native.Nat.{ℕ, suc, _+_, _-_, _≤_, _<_}
+use native.Mathlib.Omega.{arith}
+use mathlib.Core.List.{List, [], _∷_}
+use mathlib.Core.Path.{_≡_, sym, ap, _∙_}
+use lib.ListN.{length}
+use Rattle.message.specs.Numbers.{part, put}
+use Rattle.message.specs.Logs.{Log, inStep, namesOf, countsOf}
+use Rattle.message.specs.Store.{blockAt, logAt}
+use Rattle.message.proofs.LogLaws.{length-names, length-counts, log-in-step, names-in-step, counts-in-step, length-in-step}
+use Rattle.message.proofs.NumberLaws.{length-part, part-put, part-put-below, part-put-above}
+
+same-lengths : (names counts : List ℕ) (a k : ℕ) → length (part names a k) ≡ length (part counts a k)
+same-lengths names counts a k = length-part names a k ∙ sym (length-part counts a k)
+
+pub length-at : (names counts : List ℕ) (a k : ℕ) → length (logAt names counts a k) ≡ k
+unfolding logAt
+length-at names counts a k = length-in-step (part names a k) (part counts a k) (same-lengths names counts a k) ∙ length-part names a k
+
+pub names-at : (names counts : List ℕ) (a k : ℕ) → namesOf (logAt names counts a k) ≡ part names a k
+unfolding logAt
+names-at names counts a k = names-in-step (part names a k) (part counts a k) (same-lengths names counts a k)
+
+pub counts-at : (names counts : List ℕ) (a k : ℕ) → countsOf (logAt names counts a k) ≡ part counts a k
+unfolding logAt
+counts-at names counts a k = counts-in-step (part names a k) (part counts a k) (same-lengths names counts a k)
+
+-- ---- a log's first block
+
+pub log-step : (names counts : List ℕ) (a k : ℕ) → 0 < k → logAt names counts a k ≡ blockAt names counts a ∷ logAt names counts (a + 1) (k - 1)
+unfolding logAt part inStep
+log-step names counts a k h = let e : k ≡ suc (k - 1) = omega arith in ap (logAt names counts a) e
+
+pub log-empty : (names counts : List ℕ) (a k : ℕ) → k ≤ 0 → logAt names counts a k ≡ []
+unfolding logAt part inStep
+log-empty names counts a k h = let e : k ≡ 0 = omega arith in ap (logAt names counts a) e
+
+-- ---- storing a log
+
+-- what was stored is there
+pub log-stored : (names counts : List ℕ) (a : ℕ) (L : Log) → a + length L ≤ length names → a + length L ≤ length counts
+    → logAt (put names a (namesOf L)) (put counts a (countsOf L)) a (length L) ≡ L
+unfolding logAt
+log-stored names counts a L h g =
+    let n = length-names L in
+    let c = length-counts L in
+    let p = ap (part (put names a (namesOf L)) a) (sym n) ∙ part-put names a (namesOf L) (omega arith) in
+    let q = ap (part (put counts a (countsOf L)) a) (sym c) ∙ part-put counts a (countsOf L) (omega arith) in
+    (λ i. inStep (p i) (q i)) ∙ log-in-step L
+
+-- logs before and past it are as they were
+pub log-before : (names counts : List ℕ) (a : ℕ) (L : Log) (b k : ℕ) → b + k ≤ a → logAt (put names a (namesOf L)) (put counts a (countsOf L)) b k ≡ logAt names counts b k
+unfolding logAt
+log-before names counts a L b k h =
+    let p = part-put-below names a (namesOf L) b k h in let q = part-put-below counts a (countsOf L) b k h in λ i. inStep (p i) (q i)
+
+pub log-past : (names counts : List ℕ) (a : ℕ) (L : Log) (b k : ℕ) → a + length L ≤ b → logAt (put names a (namesOf L)) (put counts a (countsOf L)) b k ≡ logAt names counts b k
+unfolding logAt
+log-past names counts a L b k h =
+    let n = length-names L in
+    let c = length-counts L in
+    let p = part-put-above names a (namesOf L) b k (omega arith) in
+    let q = part-put-above counts a (countsOf L) b k (omega arith) in
+    λ i. inStep (p i) (q i)

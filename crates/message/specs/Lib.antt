@@ -1,0 +1,8 @@
+-- What a reader of this crate must believe. Each definition names its place in document 01.
+pub mod Limits
+pub mod Choice
+pub mod Numbers
+pub mod Logs
+pub mod Message
+pub mod Store
+pub mod Asks

@@ -1,0 +1,173 @@
+-- The message: its meaning, its one writing, and what is read from bytes (document 01, "The message" and refusals 1 to 6 of "From the input").
+-- Assumes nothing.
+use Prim.Native.Nat.{ℕ, _+_, _*_, _^_, _<_, _≤_}
+use mathlib.Core.List.{List, _∷_, _++_}
+use mathlib.Core.Bool.{Bool, false, not, _&&_, _||_}
+use mathlib.Core.Path.{_≡_}
+use lib.Dec.{eqb, leb, ltb}
+use lib.ListN.{length, getD}
+use Rattle.message.specs.Limits.{mostBlocks, lastView, headLength, nameWidth, countWidth, blockWidth}
+use Rattle.message.specs.Choice.{pick, some}
+use Rattle.message.specs.Numbers.{AllBelow, numberAt, numbersAt, bytesFor, bytesForEach}
+use Rattle.message.specs.Logs.{Log, inStep, namesOf, countsOf}
+use Rattle.message.specs.declared.Head.{Head}
+use Rattle.message.specs.declared.Message.{Message}
+use Rattle.message.specs.declared.Message.the-variants as answers
+
+-- ---- the meaning
+
+-- What every message says: who sends it, for which view, and a log.
+pub record Content : Type 0 where
+  pub sender : ℕ
+  pub view : ℕ
+  pub log : Log
+
+-- "a LOG with its head, or a PROPOSAL with its head and priority"
+pub data Meaning : Type 0 where
+  logMessage : Content → Meaning
+  proposalMessage : Content → ℕ → Meaning
+
+-- the content of either kind, and its log
+abbrev pub said : Meaning → Content
+said (logMessage m) = m
+said (proposalMessage m priority) = m
+
+abbrev pub logOf : Meaning → Log
+logOf m = said m .log
+
+-- byte 2: the kind
+abbrev pub logKind : ℕ
+logKind = 1
+
+abbrev pub proposalKind : ℕ
+proposalKind = 2
+
+-- ---- the one writing of a meaning: block count, sender, kind, a zero; view; priority; the names; the counts
+
+unfoldable pub written : Content → ℕ → ℕ → List ℕ
+written m kind priority =
+    length (m .log)
+    ∷ m .sender
+    ∷ kind
+    ∷ 0
+    ∷ (bytesFor 4 (m .view) ++ (bytesFor 8 priority ++ (bytesForEach nameWidth (namesOf (m .log)) ++ bytesForEach countWidth (countsOf (m .log)))))
+
+-- The priority is zero in a LOG.
+unfoldable pub bytesOf : Meaning → List ℕ
+bytesOf (logMessage m) = written m logKind 0
+bytesOf (proposalMessage m priority) = written m proposalKind priority
+
+-- ---- the fields of bytes, by their places
+
+abbrev pub countIn : List ℕ → ℕ
+countIn s = getD s 0 0
+
+abbrev pub senderIn : List ℕ → ℕ
+senderIn s = getD s 1 0
+
+abbrev pub kindIn : List ℕ → ℕ
+kindIn s = getD s 2 0
+
+abbrev pub byteThree : List ℕ → ℕ
+byteThree s = getD s 3 0
+
+abbrev pub viewIn : List ℕ → ℕ
+viewIn s = numberAt 4 s 4
+
+abbrev pub priorityIn : List ℕ → ℕ
+priorityIn s = numberAt 8 s 8
+
+-- the names and the counts of k blocks, and these in step
+abbrev pub namesIn : List ℕ → ℕ → List ℕ
+namesIn s k = numbersAt nameWidth s headLength k
+
+abbrev pub countsIn : List ℕ → ℕ → List ℕ
+countsIn s k = numbersAt countWidth s (headLength + nameWidth * k) k
+
+abbrev pub blocksIn : List ℕ → ℕ → Log
+blocksIn s k = inStep (namesIn s k) (countsIn s k)
+
+-- the log that the bytes hold: as many blocks as byte 0 says
+abbrev pub logIn : List ℕ → Log
+logIn s = blocksIn s (countIn s)
+
+abbrev pub contentIn : List ℕ → Content
+contentIn s = record { sender = senderIn s; view = viewIn s; log = logIn s }
+
+unfoldable pub meaningIn : List ℕ → Meaning
+meaningIn s = pick (eqb (kindIn s) logKind) (logMessage (contentIn s)) (proposalMessage (contentIn s) (priorityIn s))
+
+-- ---- refusals 1 to 6, each a test that holds where the message is refused
+
+-- 1: under 16 bytes
+abbrev pub tooShort : List ℕ → Bool
+tooShort s = ltb (length s) headLength
+
+-- 2: "k over 64 or length not 16 + 10k"
+abbrev pub missized : List ℕ → Bool
+missized s = ltb mostBlocks (countIn s) || not (eqb (length s) (headLength + blockWidth * countIn s))
+
+-- 3: the kind is neither, byte 3 is not zero, or a LOG has a priority
+unfoldable pub malformed : List ℕ → Bool
+malformed s =
+    not (eqb (kindIn s) logKind || eqb (kindIn s) proposalKind)
+    || (not (eqb (byteThree s) 0)
+    || (eqb (kindIn s) logKind && not (eqb (priorityIn s) 0)))
+
+-- 4: the sender is n or above
+abbrev pub unknownSender : ℕ → List ℕ → Bool
+unknownSender n s = leb n (senderIn s)
+
+-- 5: the view is past the last
+abbrev pub pastLastView : List ℕ → Bool
+pastLastView s = ltb lastView (viewIn s)
+
+-- 6: a name is zero
+abbrev pub anyZero : List ℕ → Bool
+anyZero names = some (λ name. eqb name 0) names
+
+abbrev pub zeroNamed : List ℕ → Bool
+zeroNamed s = anyZero (namesIn s (countIn s))
+
+-- ---- reading
+
+-- What reading gives: the number of the first refusal that holds, or the meaning.
+pub data Reading : Type 0 where
+  refused : ℕ → Reading
+  means : Meaning → Reading
+
+-- "First failure is given": 1 to 6 in their order.
+unfoldable pub readOf : ℕ → List ℕ → Reading
+readOf n s =
+    pick (tooShort s) (refused 1)
+    (pick (missized s) (refused 2)
+    (pick (malformed s) (refused 3)
+    (pick (unknownSender n s) (refused 4)
+    (pick (pastLastView s) (refused 5)
+    (pick (zeroNamed s) (refused 6)
+    (means (meaningIn s)))))))
+
+-- ---- the reader's answer: what each case of the enum says of the bytes that were read
+
+abbrev pub contentOf : List ℕ → Head → Content
+contentOf s h = record { sender = h .sender; view = h .view; log = blocksIn s (h .blocks) }
+
+unfoldable pub readingOf : List ℕ → Message → Reading
+readingOf s (answers.Refused number) = refused number
+readingOf s (answers.Log h) = means (logMessage (contentOf s h))
+readingOf s (answers.Proposal h priority) = means (proposalMessage (contentOf s h) priority)
+
+-- ---- meanings in range: what may be written and is then read back
+
+-- A content within the limits of n benches: names of 64 bits, not zero, and counts of 16 bits.
+pub record Writable (n : ℕ) (m : Content) : Type 0 where
+  pub sender : m .sender < n
+  pub view : m .view ≤ lastView
+  pub short : length (m .log) ≤ mostBlocks
+  pub named : anyZero (namesOf (m .log)) ≡ false
+  pub names : AllBelow (2 ^ 64) (namesOf (m .log))
+  pub counts : AllBelow (2 ^ 16) (countsOf (m .log))
+
+abbrev pub WritableMeaning : ℕ → Meaning → Type 0
+WritableMeaning n (logMessage m) = Writable n m
+WritableMeaning n (proposalMessage m priority) = Writable n m × (priority < 2 ^ 64)
