@@ -1,4 +1,4 @@
--- "each accepted message has one meaning and each meaning one writing" (document 01, "The message"). Assumes nothing.
+-- Reading undoes writing and writing undoes reading: one meaning, "one writing" (document 01, "The message"). Assumes nothing.
 use Prim.Native.Nat.{ℕ, zero, suc, _+_, _*_, _^_, _≤_, _<_}
 use native.Mathlib.Omega.{arith}
 use mathlib.Core.Path.{_≡_, refl, sym, ap, subst, _∙_}
@@ -8,24 +8,25 @@ use lib.ListN.{length}
 use Rattle.message.specs.Limits.{lastView, headLength, nameWidth, countWidth, blockWidth}
 use Rattle.message.specs.Numbers.{AllBelow, part, bytesFor, bytesForEach}
 use Rattle.message.specs.Logs.{namesOf, countsOf}
-use Rattle.message.specs.Message.{Content, anyZero, Writable, WritableMeaning, Meaning, logMessage, proposalMessage, logKind, proposalKind, written, bytesOf, countIn, senderIn, kindIn, byteThree, priorityIn, logIn, contentIn, meaningIn, means, readOf}
-use Rattle.message.proofs.NumberLaws.{part-append, part-all, bytes-number, bytes-numbers, append-below, bytes-below, bytes-each-below, number-below, numbers-below}
+use Rattle.message.specs.Message.{Content, anyZero, Writable, WritableMeaning, Meaning, logMessage, proposalMessage, logKind, proposalKind, messageBytes, bytesOf, countIn, senderIn, kindIn, byteThree, priorityIn, logIn, contentIn, meaningIn, means, readOf}
+use Rattle.message.proofs.PartLaws.{part-append, part-all, append-below}
+use Rattle.message.proofs.NumberLaws.{bytes-number, bytes-numbers, bytes-below, bytes-each-below, number-below, numbers-below}
 use Rattle.message.proofs.WrittenFields.{length-written, count-written, sender-written, kind-written, three-written, view-written, priority-written, log-written}
 use Rattle.message.proofs.Acceptance.{accepted, accepts, KindFits, Form, form, of-form, names-in, counts-in, length-blocks, meaning-log, meaning-proposal}
 
 -- ---- what is written is read back
 
 module _ (n : ℕ) (m : Content) (kind priority : ℕ) (w : Writable n m) where
-  content-written : contentIn (written m kind priority) ≡ m
+  content-written : contentIn (messageBytes m kind priority) ≡ m
   content-written =
       let s = sender-written m kind priority in
       let v = view-written m kind priority (let h = w .view in omega arith) in
       let l = log-written m kind priority (w .names) (w .counts) in
       λ i. record { sender = s i; view = v i; log = l i }
 
-  form-written : priority < 2 ^ 64 → KindFits kind priority → Form n (written m kind priority)
+  form-written : priority < 2 ^ 64 → KindFits kind priority → Form n (messageBytes m kind priority)
   form-written p k =
-      let s = written m kind priority in
+      let s = messageBytes m kind priority in
       let c = count-written m kind priority in
       let e = content-written in
       record {
@@ -45,11 +46,11 @@ module _ (n : ℕ) (m : Content) (kind priority : ℕ) (w : Writable n m) where
 pub read-written : (n : ℕ) (m : Meaning) → WritableMeaning n m → readOf n (bytesOf m) ≡ means m
 unfolding bytesOf
 read-written n (logMessage m) w =
-    let s = written m logKind 0 in
+    let s = messageBytes m logKind 0 in
     accepts n s (of-form (form-written n m logKind 0 w (omega arith) (inl (refl, refl))))
     ∙ ap means (meaning-log s (kind-written m logKind 0) ∙ ap logMessage (content-written n m logKind 0 w))
 read-written n (proposalMessage m priority) w =
-    let s = written m proposalKind priority in
+    let s = messageBytes m proposalKind priority in
     let c = content-written n m proposalKind priority (w .0) in
     let p = priority-written m proposalKind priority (w .1) in
     accepts n s (of-form (form-written n m proposalKind priority (w .0) (w .1) (inr refl)))
@@ -59,8 +60,8 @@ read-written n (proposalMessage m priority) w =
 
 -- the fields of the bytes, written one after the other, are the bytes
 rewritten : (s : List ℕ) → AllBelow 256 s → length s ≡ headLength + blockWidth * countIn s → byteThree s ≡ 0
-    → written (contentIn s) (kindIn s) (priorityIn s) ≡ s
-unfolding written part
+    → messageBytes (contentIn s) (kindIn s) (priorityIn s) ≡ s
+unfolding messageBytes part
 rewritten s b e z =
     let k = countIn s in
     let l = length-blocks s k in
@@ -83,10 +84,10 @@ rewritten s b e z =
 
 -- the kind and the priority that the meaning of the bytes is written with are those in the bytes
 bytes-meaning : (s : List ℕ) → KindFits (kindIn s) (priorityIn s)
-    → bytesOf (meaningIn s) ≡ written (contentIn s) (kindIn s) (priorityIn s)
+    → bytesOf (meaningIn s) ≡ messageBytes (contentIn s) (kindIn s) (priorityIn s)
 unfolding bytesOf
-bytes-meaning s (inl k) = ap bytesOf (meaning-log s (k .0)) ∙ (λ i. written (contentIn s) (sym (k .0) i) (sym (k .1) i))
-bytes-meaning s (inr k) = ap bytesOf (meaning-proposal s k) ∙ (λ i. written (contentIn s) (sym k i) (priorityIn s))
+bytes-meaning s (inl k) = ap bytesOf (meaning-log s (k .0)) ∙ (λ i. messageBytes (contentIn s) (sym (k .0) i) (sym (k .1) i))
+bytes-meaning s (inr k) = ap bytesOf (meaning-proposal s k) ∙ (λ i. messageBytes (contentIn s) (sym k i) (priorityIn s))
 
 -- Bytes that are accepted are the writing of what they mean.
 pub written-read : (n : ℕ) (s : List ℕ) (m : Meaning) → AllBelow 256 s → readOf n s ≡ means m → bytesOf m ≡ s
@@ -126,8 +127,8 @@ read-writable n s m b e =
 
 -- ---- what may be written is bytes
 
-written-below : (n : ℕ) (m : Content) (kind priority : ℕ) → n ≤ 256 → kind < 256 → Writable n m → AllBelow 256 (written m kind priority)
-unfolding written
+written-below : (n : ℕ) (m : Content) (kind priority : ℕ) → n ≤ 256 → kind < 256 → Writable n m → AllBelow 256 (messageBytes m kind priority)
+unfolding messageBytes
 written-below n m kind priority h k w zero = let l = w .short in omega arith
 written-below n m kind priority h k w (suc zero) = let l = w .sender in omega arith
 written-below n m kind priority h k w (suc (suc zero)) = k

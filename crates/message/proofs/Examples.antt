@@ -38,7 +38,8 @@ block x y = record { name = x; count = y }
 abbrev pub rows : List Row
 rows =
     -- lengths
-    row 4 (replicate 15 0) (refused 1)
+    row 4 [] (refused 1)
+    ∷ row 4 (replicate 15 0) (refused 1)
     ∷ row 4 (from 1 3 1 0 64 0 ++ replicate 9 1) (refused 2)
     ∷ row 4 (from 1 3 1 0 64 0 ++ replicate 11 1) (refused 2)
     ∷ row 4 (from 65 3 1 0 64 0 ++ replicate 650 1) (refused 2)
@@ -52,6 +53,7 @@ rows =
     ∷ row 4 (from 0 3 1 0 65 0) (refused 5)
     ∷ row 4 (from 2 3 2 0 64 0 ++ (name 7 ++ (name 0 ++ (count 1 ++ count 1)))) (refused 6)
     -- the first failure is given
+    ∷ row 4 (from 1 3 3 0 64 0) (refused 2)
     ∷ row 4 (from 0 4 3 0 64 0) (refused 3)
     ∷ row 4 (from 0 4 1 0 65 0) (refused 4)
     ∷ row 4 (from 1 3 1 0 65 0 ++ (name 0 ++ count 1)) (refused 5)

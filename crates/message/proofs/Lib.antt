@@ -2,6 +2,7 @@
 -- Tests, logs, and numbers in lists:
 pub mod TestLaws
 pub mod LogLaws
+pub mod PartLaws
 pub mod NumberLaws
 pub mod ListedLaws
 -- A message is read back from its writing, and written back from its reading; worked examples:

@@ -3,12 +3,16 @@ use Prim.Native.Nat.{ℕ, suc, _+_, _-_, _≤_, _<_}
 use native.Mathlib.Omega.{arith}
 use mathlib.Core.List.{List, [], _∷_}
 use mathlib.Core.Path.{_≡_, sym, ap, _∙_}
+use mathlib.Core.Bool.{true, _&&_, and-eq-true-iff}
+use borrow.Author.Tests.{leb-true, le-leb}
+use lib.Dec.{leb}
 use lib.ListN.{length}
+use Rattle.message.specs.Limits.{mostBlocks}
 use Rattle.message.specs.Numbers.{part, put}
 use Rattle.message.specs.Logs.{Log, inStep, namesOf, countsOf}
-use Rattle.message.specs.Store.{blockAt, logAt}
+use Rattle.message.specs.Store.{blockAt, logAt, within}
 use Rattle.message.proofs.LogLaws.{length-names, length-counts, log-in-step, names-in-step, counts-in-step, length-in-step}
-use Rattle.message.proofs.NumberLaws.{length-part, part-put, part-put-below, part-put-above}
+use Rattle.message.proofs.PartLaws.{length-part, part-put, part-put-below, part-put-above}
 
 same-lengths : (names counts : List ℕ) (a k : ℕ) → length (part names a k) ≡ length (part counts a k)
 same-lengths names counts a k = length-part names a k ∙ sym (length-part counts a k)
@@ -34,6 +38,23 @@ log-step names counts a k h = let e : k ≡ suc (k - 1) = omega arith in ap (log
 pub log-empty : (names counts : List ℕ) (a k : ℕ) → k ≤ 0 → logAt names counts a k ≡ []
 unfolding logAt part inStep
 log-empty names counts a k h = let e : k ≡ 0 = omega arith in ap (logAt names counts a) e
+
+-- ---- within the lists, as facts
+
+pub record Within (names counts : List ℕ) (a k : ℕ) : Type 0 where
+  pub few : k ≤ mostBlocks
+  pub inNames : a + k ≤ length names
+  pub inCounts : a + k ≤ length counts
+
+pub within-of : (names counts : List ℕ) (a k : ℕ) → within names counts a k ≡ true → Within names counts a k
+within-of names counts a k e =
+    let p = and-eq-true-iff (leb k mostBlocks) (leb (a + k) (length names) && leb (a + k) (length counts)) .0 e in
+    let q = and-eq-true-iff (leb (a + k) (length names)) (leb (a + k) (length counts)) .0 (p .1) in
+    record { few = leb-true k mostBlocks (p .0); inNames = leb-true (a + k) (length names) (q .0); inCounts = leb-true (a + k) (length counts) (q .1) }
+
+pub of-within : {names counts : List ℕ} {a k : ℕ} → Within names counts a k → within names counts a k ≡ true
+of-within {names} {counts} {a} {k} w =
+    rw (le-leb k mostBlocks (w .few), le-leb (a + k) (length names) (w .inNames), le-leb (a + k) (length counts) (w .inCounts))
 
 -- ---- storing a log
 

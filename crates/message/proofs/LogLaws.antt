@@ -3,12 +3,12 @@ use Prim.Native.Nat.{ℕ, suc, _≤_}
 use native.Mathlib.Nat.{le-of-suc-le-suc}
 use native.Mathlib.Omega.{arith}
 use mathlib.Core.Path.{_≡_, refl, sym, ap, subst, _∙_}
-use mathlib.Core.Logic.{_⊎_, inl, inr, _↔_}
+use mathlib.Core.Logic.{inl, inr, _↔_}
 use mathlib.Core.List.{List, [], _∷_, _++_}
 use mathlib.Core.Bool.{Bool, true, false, false≢true, and-eq-true-iff}
 use lib.ListN.{length}
 use borrow.Author.Tests.{eqb-true, eq-eqb}
-use Rattle.message.specs.Logs.{Block, Log, Prefix, empty, more, Conflict, sameBlock, isPrefix, sameLog, inStep, namesOf, countsOf}
+use Rattle.message.specs.Logs.{Block, Log, Prefix, empty, more, Conflict, Compatible, sameBlock, isPrefix, sameLog, inStep, namesOf, countsOf}
 
 -- ---- the order
 
@@ -41,9 +41,6 @@ pub prefix-iff : (P Q : Log) → Prefix P Q ↔ ((t : Log) × (P ++ t ≡ Q))
 prefix-iff P Q = (prefix-tail, λ e. subst (λ l. Prefix P l) (e .1) (prefix-append P (e .0)))
 
 -- ---- logs that do not conflict
-
-abbrev pub Compatible : Log → Log → Type 0
-Compatible P Q = Prefix P Q ⊎ Prefix Q P
 
 pub compatible-swap : {P Q : Log} → Compatible P Q → Compatible Q P
 compatible-swap (inl h) = inr h

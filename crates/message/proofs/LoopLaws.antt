@@ -1,5 +1,6 @@
--- The laws that the proofs of functions cite: numbers of two, four and eight bytes, and a turn and the end of each loop. Assumes nothing.
-use Prim.Native.Nat.{ℕ, zero, suc, _+_, _-_, _*_, _/_, _%_, _≤_, _<_}
+-- The laws that the proofs of functions over numbers cite: two, four and eight bytes, a range, and a turn and the end of each loop that reads,
+-- writes or copies numbers. Assumes nothing.
+use Prim.Native.Nat.{ℕ, suc, _+_, _-_, _*_, _/_, _%_, _≤_, _<_}
 use native.Mathlib.Omega.{arith}
 use mathlib.Core.Path.{_≡_, refl, sym, ap, _∙_}
 use mathlib.Core.List.{List, _∷_}
@@ -11,7 +12,8 @@ use lib.Seq.{getD-set-other}
 use Rattle.message.specs.Choice.{some}
 use Rattle.message.specs.Message.{anyZero}
 use Rattle.message.specs.Numbers.{part, put, numberAt, numbersAt, bytesFor, bytesForEach}
-use Rattle.message.proofs.NumberLaws.{length-bytes, put-append}
+use Rattle.message.proofs.PartLaws.{put-append}
+use Rattle.message.proofs.NumberLaws.{length-bytes}
 
 -- ---- numbers by their bytes
 

@@ -2,13 +2,13 @@
 use Prim.Native.Nat.{ℕ, _+_, _*_, _<_, _≤_}
 use native.Mathlib.Omega.{arith}
 use mathlib.Core.List.{List}
-use mathlib.Core.Bool.{Bool, true, false, not, _||_}
+use mathlib.Core.Bool.{Bool, true, false, not, _&&_, _||_}
 use mathlib.Core.Path.{_≡_}
 use borrow.Author.Tests.{eq-eqb, ne-eqb, lt-ltb, le-ltb, le-leb, lt-leb, ltb-false, eqb-true, not-false}
 use lib.Dec.{ltb, eqb}
 use lib.ListN.{length, getD}
 use Rattle.message.specs.Limits.{mostBlocks, lastView, headLength, nameWidth, blockWidth}
-use Rattle.message.specs.Message.{logKind, viewIn, priorityIn, missized, malformed, anyZero, namesIn, meaningIn, readOf, readingOf}
+use Rattle.message.specs.Message.{logKind, proposalKind, viewIn, priorityIn, malformed, anyZero, namesIn, meaningIn, readOf, readingOf}
 use Rattle.message.proofs.TestLaws.{or-false}
 use Rattle.message.specs.declared.Message.the-variants.{Log, Proposal, Refused}
 
@@ -45,19 +45,25 @@ module _ (n : ℕ) (s : List ℕ) where
         unfolding readOf readingOf
         read-5 h = rw (le-ltb (length s) headLength long, ← count, fine, ← form, well, lt-leb n (getD s 1 0) known, ← at, lt-ltb lastView view h)
 
-        module _ (early : view ≤ lastView) (zero : Bool) (nameless : zero ≡ anyZero (namesIn s k)) where
+        module _ (early : view ≤ lastView) (zero : Bool) (found : zero ≡ anyZero (namesIn s k)) where
           pub read-6 : zero ≡ true → readingOf s (Refused 6) ≡ readOf n s
           unfolding readOf readingOf
           read-6 e =
-              rw (le-ltb (length s) headLength long, ← count, fine, ← form, well, lt-leb n (getD s 1 0) known, ← at, le-ltb lastView view early, ← nameless, e)
+              rw (le-ltb (length s) headLength long, ← count, fine, ← form, well, lt-leb n (getD s 1 0) known, ← at, le-ltb lastView view early, ← found, e)
 
           pub read-log : zero ≡ false → getD s 2 0 ≡ logKind → readingOf s (Log (record { view = view; sender = getD s 1 0; blocks = getD s 0 0 })) ≡ readOf n s
           unfolding readOf readingOf meaningIn
           read-log e h =
-              rw (le-ltb (length s) headLength long, ← count, fine, ← form, well, lt-leb n (getD s 1 0) known, ← at, le-ltb lastView view early, ← nameless, e, eq-eqb (getD s 2 0) logKind h)
+              rw (le-ltb (length s) headLength long, ← count, fine, ← form, well, lt-leb n (getD s 1 0) known, ← at, le-ltb lastView view early, ← found, e, eq-eqb (getD s 2 0) logKind h)
 
           pub read-proposal : (priority : ℕ) → zero ≡ false → (getD s 2 0 ≡ logKind → ⊥) → priority ≡ priorityIn s
               → readingOf s (Proposal (record { view = view; sender = getD s 1 0; blocks = getD s 0 0 }) priority) ≡ readOf n s
           unfolding readOf readingOf meaningIn
           read-proposal priority e h p =
-              rw (le-ltb (length s) headLength long, ← count, fine, ← form, well, lt-leb n (getD s 1 0) known, ← at, le-ltb lastView view early, ← nameless, e, ne-eqb (getD s 2 0) logKind h, p)
+              rw (le-ltb (length s) headLength long, ← count, fine, ← form, well, lt-leb n (getD s 1 0) known, ← at, le-ltb lastView view early, ← found, e, ne-eqb (getD s 2 0) logKind h, p)
+
+-- the test of refusal 3, on the bytes it reads
+pub malformed-is : (s : List ℕ) (kind priority : ℕ) → kind ≡ getD s 2 0 → priority ≡ priorityIn s
+    → (not (eqb kind logKind || eqb kind proposalKind) || (not (eqb (getD s 3 0) 0) || (eqb kind logKind && not (eqb priority 0)))) ≡ malformed s
+unfolding malformed
+malformed-is s kind priority e f = rw (e, f)

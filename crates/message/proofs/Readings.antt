@@ -20,7 +20,7 @@ content-head s h j e =
     λ i. record { view = v i; sender = w i; blocks = b i }
 
 -- the head in the bytes
-abbrev pub headIn : List ℕ → Head
+abbrev headIn : List ℕ → Head
 headIn s = record { view = viewIn s; sender = senderIn s; blocks = countIn s }
 
 -- no two answers say the same of the bytes
@@ -72,10 +72,8 @@ within-of n s h m e c =
     let q : headIn s ≡ h = content-head s (headIn s) h (sym (said-in s) ∙ ap said (a .1) ∙ c) in
     subst (HeadWithin n s) q (record { few = f .few; sized = f .sized; exact = refl; below = f .sender; early = f .view })
 
-pub head-within : (n : ℕ) (s : List ℕ) (h : Head) → readingOf s (answers.Log h) ≡ readOf n s → HeadWithin n s h
-unfolding readingOf
-head-within n s h e = within-of n s h (logMessage (contentOf s h)) (sym e) refl
+pub head-within : (n : ℕ) (s : List ℕ) (r : Message) (h : Head) → readingOf s r ≡ readOf n s → r ≡ answers.Log h → HeadWithin n s h
+head-within n s r h e c = within-of n s h (logMessage (contentOf s h)) (read-as-log n s r h e c) refl
 
-pub head-within-proposal : (n : ℕ) (s : List ℕ) (h : Head) (priority : ℕ) → readingOf s (answers.Proposal h priority) ≡ readOf n s → HeadWithin n s h
-unfolding readingOf
-head-within-proposal n s h priority e = within-of n s h (proposalMessage (contentOf s h) priority) (sym e) refl
+pub head-within-proposal : (n : ℕ) (s : List ℕ) (r : Message) (h : Head) (priority : ℕ) → readingOf s r ≡ readOf n s → r ≡ answers.Proposal h priority → HeadWithin n s h
+head-within-proposal n s r h priority e c = within-of n s h (proposalMessage (contentOf s h) priority) (read-as-proposal n s r h priority e c) refl

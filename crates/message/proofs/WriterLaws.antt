@@ -10,12 +10,13 @@ use lib.ListN.{length, set, length-append}
 use Rattle.message.specs.Limits.{mostBlocks, headLength, nameWidth, countWidth, blockWidth}
 use Rattle.message.specs.Numbers.{part, put, bytesFor, bytesForEach}
 use Rattle.message.specs.Logs.{Block, namesOf, countsOf}
-use Rattle.message.specs.Message.{Content, logKind, proposalKind, written, bytesOf}
-use Rattle.message.specs.Store.{logAt, within, roomFor, Writes, writeOf, logFrom, writeLogOf, proposalFrom, writeProposalOf}
+use Rattle.message.specs.Message.{Content, Meaning, logKind, proposalKind, messageBytes, bytesOf}
+use Rattle.message.specs.Store.{logAt, within, roomFor, Writes, writeOf, logFrom, proposalFrom}
 use Rattle.message.specs.Asks.{Room}
 use Rattle.message.proofs.LogLaws.{names-append, counts-append}
-use Rattle.message.proofs.ListedLaws.{length-at, names-at, counts-at}
-use Rattle.message.proofs.NumberLaws.{length-part, length-bytes, length-bytes-each, bytes-each-append, put-append}
+use Rattle.message.proofs.ListedLaws.{length-at, names-at, counts-at, within-of}
+use Rattle.message.proofs.PartLaws.{length-part, put-append}
+use Rattle.message.proofs.NumberLaws.{length-bytes, length-bytes-each, bytes-each-append}
 
 -- ---- the head
 
@@ -33,6 +34,10 @@ headed o o₀ o₁ o₂ k sender kind view priority e₀ e₁ e₂ =
 
 -- ---- numbers, and one more
 
+-- the bytes of k numbers
+numbers-length : (w k : ℕ) (ns : List ℕ) → length ns ≡ k → length (bytesForEach w ns) ≡ w * k
+numbers-length w k ns e = length-bytes-each w ns ∙ ap (λ (j : ℕ). w * j) e
+
 bytes-one : (w x : ℕ) → bytesForEach w (x ∷ []) ≡ bytesFor w x
 unfolding bytesForEach
 bytes-one w x = append-nil (bytesFor w x)
@@ -40,7 +45,7 @@ bytes-one w x = append-nil (bytesFor w x)
 pub one-more : (w : ℕ) (o o₀ o₁ ns : List ℕ) (at a k x : ℕ) → o₀ ≡ put o at (bytesForEach w (part ns a k)) → o₁ ≡ put o₀ (at + w * k) (bytesFor w x)
     → o₁ ≡ put o at (bytesForEach w (part ns a k ++ (x ∷ [])))
 one-more w o o₀ o₁ ns at a k x e₀ e₁ =
-    let l : length (bytesForEach w (part ns a k)) ≡ w * k = length-bytes-each w (part ns a k) ∙ ap (λ (j : ℕ). w * j) (length-part ns a k) in
+    let l = numbers-length w k (part ns a k) (length-part ns a k) in
     let f : bytesForEach w (part ns a k ++ (x ∷ [])) ≡ bytesForEach w (part ns a k) ++ bytesFor w x =
     bytes-each-append w (part ns a k) (x ∷ []) ∙ ap (λ (t : List ℕ). bytesForEach w (part ns a k) ++ t) (bytes-one w x) in
     rw (e₁, e₀)
@@ -54,8 +59,8 @@ message-written : (m : Content) (kind priority : ℕ) (o o₀ o₁ o₂ : List �
     → o₀ ≡ put o 0 (length (m .log) ∷ m .sender ∷ kind ∷ 0 ∷ (bytesFor 4 (m .view) ++ bytesFor 8 priority))
     → o₁ ≡ put o₀ headLength (bytesForEach nameWidth (namesOf (m .log)))
     → o₂ ≡ put o₁ (headLength + length (bytesForEach nameWidth (namesOf (m .log)))) (bytesForEach countWidth (countsOf (m .log)))
-    → o₂ ≡ put o 0 (written m kind priority)
-unfolding written
+    → o₂ ≡ put o 0 (messageBytes m kind priority)
+unfolding messageBytes
 message-written m kind priority o o₀ o₁ o₂ e₀ e₁ e₂ =
     let head = length (m .log) ∷ m .sender ∷ kind ∷ 0 ∷ (bytesFor 4 (m .view) ++ bytesFor 8 priority) in
     let ns = bytesForEach nameWidth (namesOf (m .log)) in
@@ -69,10 +74,6 @@ message-written m kind priority o o₀ o₁ o₂ e₀ e₁ e₂ =
     ∙ put-append o 0 head (ns ++ cs)
     ∙ ap (λ (j : ℕ). put (put o 0 head) (0 + j) (ns ++ cs)) l
     ∙ put-append (put o 0 head) headLength ns cs))
-
--- the bytes of k numbers
-numbers-length : (w k : ℕ) (ns : List ℕ) → length ns ≡ k → length (bytesForEach w ns) ≡ w * k
-numbers-length w k ns e = length-bytes-each w ns ∙ ap (λ (j : ℕ). w * j) e
 
 pub log-put : (names counts : List ℕ) (a k sender view : ℕ) (o o₀ o₁ o₂ : List ℕ)
     → o₀ ≡ put o 0 (k ∷ sender ∷ logKind ∷ 0 ∷ (bytesFor 4 view ++ bytesFor 8 0)) → o₁ ≡ put o₀ headLength (bytesForEach nameWidth (part names a k))
@@ -118,34 +119,18 @@ unfolding roomFor
 room-of out names counts a k m z e t =
     let f = and-eq-true-iff (leb m mostBlocks) (within names counts a k && leb (headLength + blockWidth * m) (length out)) .0 (sym e ∙ t) in
     let g = and-eq-true-iff (within names counts a k) (leb (headLength + blockWidth * m) (length out)) .0 (f .1) in
-    let h = and-eq-true-iff (leb (a + k) (length names)) (leb (a + k) (length counts)) .0 (g .0) in
-    record {
-      few = leb-true m mostBlocks (f .0);
-      inNames = leb-true (a + k) (length names) (h .0);
-      inCounts = leb-true (a + k) (length counts) (h .1);
-      room = leb-true (headLength + blockWidth * m) (length out) (g .1);
-    }
+    let w = within-of names counts a k (g .0) in
+    record { few = leb-true m mostBlocks (f .0); inNames = w .inNames; inCounts = w .inCounts; room = leb-true (headLength + blockWidth * m) (length out) (g .1) }
 
-module _ (out names counts : List ℕ) (a k sender view : ℕ) (z : Bool) (e : z ≡ roomFor out names counts a k k) where
-  pub log-done : (o : List ℕ) → z ≡ true → o ≡ put out 0 (bytesOf (logFrom names counts a k sender view)) → Writes (writeLogOf out names counts a k sender view) true o
-  unfolding writeLogOf writeOf
-  log-done o t q = rw (← e, t) (record { answered = refl; buffer = q })
+-- whatever the message: written where the test holds, and not where it does not
+module _ (ok : Bool) (out : List ℕ) (m : Meaning) (z : Bool) (e : z ≡ ok) where
+  pub message-done : (o : List ℕ) → z ≡ true → o ≡ put out 0 (bytesOf m) → Writes (writeOf ok out m) true o
+  unfolding writeOf
+  message-done o t q = rw (← e, t) (record { answered = refl; buffer = q })
 
-  pub log-not : z ≡ false → Writes (writeLogOf out names counts a k sender view) false out
-  unfolding writeLogOf writeOf
-  log-not t = rw (← e, t) (record { answered = refl; buffer = refl })
+  pub message-not : z ≡ false → Writes (writeOf ok out m) false out
+  unfolding writeOf
+  message-not t = rw (← e, t) (record { answered = refl; buffer = refl })
 
-module _ (out names counts : List ℕ) (a k : ℕ) (block : Block) (sender view priority : ℕ) (z : Bool) (e : z ≡ roomFor out names counts a k (k + 1)) where
-  pub proposal-done : (o : List ℕ) → z ≡ true → o ≡ put out 0 (bytesOf (proposalFrom names counts a k block sender view priority))
-      → Writes (writeProposalOf out names counts a k block sender view priority) true o
-  unfolding writeProposalOf writeOf
-  proposal-done o t q = rw (← e, t) (record { answered = refl; buffer = q })
-
-  pub proposal-not : z ≡ false → Writes (writeProposalOf out names counts a k block sender view priority) false out
-  unfolding writeProposalOf writeOf
-  proposal-not t = rw (← e, t) (record { answered = refl; buffer = refl })
-
-pub proposal-full : (out names counts : List ℕ) (a k : ℕ) (block : Block) (sender view priority : ℕ) → mostBlocks ≤ k
-    → Writes (writeProposalOf out names counts a k block sender view priority) false out
-proposal-full out names counts a k block sender view priority h =
-    proposal-not out names counts a k block sender view priority false (room-long out names counts a k (k + 1) (omega arith)) refl
+pub proposal-full : (out names counts : List ℕ) (a k : ℕ) (m : Meaning) → mostBlocks ≤ k → Writes (writeOf (roomFor out names counts a k (k + 1)) out m) false out
+proposal-full out names counts a k m h = message-not (roomFor out names counts a k (k + 1)) out m false (room-long out names counts a k (k + 1) (omega arith)) refl

@@ -4,7 +4,7 @@ use mathlib.Core.List.{List}
 use lib.ListN.{length}
 use Rattle.message.specs.Limits.{mostBlocks, headLength, nameWidth, countWidth, blockWidth}
 
--- k blocks at place a lie within the lists, and a message of m blocks may be and has room in the buffer
+-- k blocks at place a lie within the lists, a message may have m blocks, and the buffer has room for it
 pub record Room (out names counts : List ℕ) (a k m : ℕ) : Type 0 where
   pub few : m ≤ mostBlocks
   pub inNames : a + k ≤ length names

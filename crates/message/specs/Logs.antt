@@ -2,6 +2,7 @@
 use Prim.Native.Nat.{ℕ}
 use mathlib.Core.List.{List, [], _∷_}
 use mathlib.Core.Bool.{Bool, true, false, _&&_}
+use mathlib.Core.Logic.{_⊎_}
 use lib.Dec.{eqb}
 
 -- A block: its name and its entry count.
@@ -13,7 +14,7 @@ pub record Block : Type 0 where
 abbrev pub Log : Type 0
 Log = List Block
 
--- P is a prefix of Q where Q starts with all of P's blocks, "names and counts alike".
+-- P is a prefix of Q where Q starts with all of P's blocks, "names and counts alike" (LogLaws: prefix-iff).
 pub data Prefix : Log → Log → Type 0 where
   empty : {Q : Log} → Prefix [] Q
   more : {b : Block} {P Q : Log} → Prefix P Q → Prefix (b ∷ P) (b ∷ Q)
@@ -22,7 +23,11 @@ pub data Prefix : Log → Log → Type 0 where
 abbrev pub Conflict : Log → Log → Type 0
 Conflict P Q = (Prefix P Q → ⊥) × (Prefix Q P → ⊥)
 
--- ---- the same as tests; LogLaws ties them to the relations
+-- Two logs that do not conflict: one of them is a prefix of the other (LogLaws: no-conflict-iff).
+abbrev pub Compatible : Log → Log → Type 0
+Compatible P Q = Prefix P Q ⊎ Prefix Q P
+
+-- ---- the same as tests (LogLaws: isPrefix-iff, sameLog-iff)
 
 abbrev pub sameBlock : Block → Block → Bool
 sameBlock a b = eqb (a .name) (b .name) && eqb (a .count) (b .count)

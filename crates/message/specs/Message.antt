@@ -22,7 +22,7 @@ pub record Content : Type 0 where
   pub view : ℕ
   pub log : Log
 
--- "a LOG with its head, or a PROPOSAL with its head and priority"
+-- A LOG is a content; a PROPOSAL has a priority besides.
 pub data Meaning : Type 0 where
   logMessage : Content → Meaning
   proposalMessage : Content → ℕ → Meaning
@@ -44,8 +44,8 @@ proposalKind = 2
 
 -- ---- the one writing of a meaning: block count, sender, kind, a zero; view; priority; the names; the counts
 
-unfoldable pub written : Content → ℕ → ℕ → List ℕ
-written m kind priority =
+unfoldable pub messageBytes : Content → ℕ → ℕ → List ℕ
+messageBytes m kind priority =
     length (m .log)
     ∷ m .sender
     ∷ kind
@@ -54,8 +54,8 @@ written m kind priority =
 
 -- The priority is zero in a LOG.
 unfoldable pub bytesOf : Meaning → List ℕ
-bytesOf (logMessage m) = written m logKind 0
-bytesOf (proposalMessage m priority) = written m proposalKind priority
+bytesOf (logMessage m) = messageBytes m logKind 0
+bytesOf (proposalMessage m priority) = messageBytes m proposalKind priority
 
 -- ---- the fields of bytes, by their places
 
@@ -103,7 +103,7 @@ meaningIn s = pick (eqb (kindIn s) logKind) (logMessage (contentIn s)) (proposal
 abbrev pub tooShort : List ℕ → Bool
 tooShort s = ltb (length s) headLength
 
--- 2: "k over 64 or length not 16 + 10k"
+-- 2: over 64 blocks, or a length that is "not 16 + 10k"
 abbrev pub missized : List ℕ → Bool
 missized s = ltb mostBlocks (countIn s) || not (eqb (length s) (headLength + blockWidth * countIn s))
 

@@ -20,22 +20,22 @@ blockAt names counts a = record { name = getD names a 0; count = getD counts a 0
 unfoldable pub logAt : List ℕ → List ℕ → ℕ → ℕ → Log
 logAt names counts a k = inStep (part names a k) (part counts a k)
 
--- k places from a on lie within both lists
+-- k blocks from place a on are a log, of at most 64 blocks, within both lists
 abbrev pub within : List ℕ → List ℕ → ℕ → ℕ → Bool
-within names counts a k = leb (a + k) (length names) && leb (a + k) (length counts)
+within names counts a k = leb k mostBlocks && (leb (a + k) (length names) && leb (a + k) (length counts))
 
--- the bytes have room for the blocks that byte 0 says
+-- byte 0 says at most 64 blocks, and the bytes hold them; what follows them does not matter
 abbrev pub holdsLog : List ℕ → Bool
-holdsLog s = leb (headLength + blockWidth * countIn s) (length s)
+holdsLog s = leb (countIn s) mostBlocks && leb (headLength + blockWidth * countIn s) (length s)
 
 -- ---- tests
 
--- The log of x blocks at a is a prefix of the one of y blocks at b. Places outside the lists hold no log: no.
+-- The log of x blocks at a is a prefix of the log of y blocks at b; no, where one of them is no log within the lists.
 unfoldable pub prefixAt : List ℕ → List ℕ → ℕ → ℕ → ℕ → ℕ → Bool
 prefixAt names counts a x b y =
     (within names counts a x && within names counts b y) && isPrefix (logAt names counts a x) (logAt names counts b y)
 
--- The log in the message s is the one of x blocks at a.
+-- The log in the message s is the log of x blocks at a; no, where one of them is no log.
 unfoldable pub matchesAt : List ℕ → List ℕ → List ℕ → ℕ → ℕ → Bool
 matchesAt s names counts a x = (holdsLog s && within names counts a x) && sameLog (logIn s) (logAt names counts a x)
 
@@ -60,17 +60,17 @@ pub record Stores (t : Stored) (answer : Bool) (names counts : List ℕ) : Type 
   pub nameList : names ≡ t .names
   pub countList : counts ≡ t .counts
 
--- filing: the log in the message s, at place a
-unfoldable pub fileOf : List ℕ → List ℕ → ℕ → List ℕ → Stored
+-- filing: the log in the message s, to place a
+abbrev pub fileOf : List ℕ → List ℕ → ℕ → List ℕ → Stored
 fileOf names counts a s = storeOf (holdsLog s && within names counts a (countIn s)) names counts a (logIn s)
 
--- copying: the log of k blocks at a, to place b, which is past it
-unfoldable pub copyOf : List ℕ → List ℕ → ℕ → ℕ → ℕ → Stored
+-- copying: the log of k blocks at a, to place b, where it ends at or before b
+abbrev pub copyOf : List ℕ → List ℕ → ℕ → ℕ → ℕ → Stored
 copyOf names counts a b k = storeOf (leb (a + k) b && within names counts b k) names counts b (logAt names counts a k)
 
 -- ---- writing a message
 
--- k blocks at place a lie within the lists, and a message of m blocks may be and has room in the buffer
+-- the k blocks at place a are a log within the lists, a message may have m blocks, and the buffer has room for it
 unfoldable pub roomFor : List ℕ → List ℕ → List ℕ → ℕ → ℕ → ℕ → Bool
 roomFor out names counts a k m = leb m mostBlocks && (within names counts a k && leb (headLength + blockWidth * m) (length out))
 
@@ -92,7 +92,7 @@ pub record Writes (t : Written) (answer : Bool) (out : List ℕ) : Type 0 where
 abbrev pub logFrom : List ℕ → List ℕ → ℕ → ℕ → ℕ → ℕ → Meaning
 logFrom names counts a k sender view = logMessage (record { sender = sender; view = view; log = logAt names counts a k })
 
-unfoldable pub writeLogOf : List ℕ → List ℕ → List ℕ → ℕ → ℕ → ℕ → ℕ → Written
+abbrev pub writeLogOf : List ℕ → List ℕ → List ℕ → ℕ → ℕ → ℕ → ℕ → Written
 writeLogOf out names counts a k sender view = writeOf (roomFor out names counts a k k) out (logFrom names counts a k sender view)
 
 -- the PROPOSAL of the k blocks at place a and one block more
@@ -100,6 +100,6 @@ abbrev pub proposalFrom : List ℕ → List ℕ → ℕ → ℕ → Block → �
 proposalFrom names counts a k block sender view priority =
     proposalMessage (record { sender = sender; view = view; log = logAt names counts a k ++ (block ∷ []) }) priority
 
-unfoldable pub writeProposalOf : List ℕ → List ℕ → List ℕ → ℕ → ℕ → Block → ℕ → ℕ → ℕ → Written
+abbrev pub writeProposalOf : List ℕ → List ℕ → List ℕ → ℕ → ℕ → Block → ℕ → ℕ → ℕ → Written
 writeProposalOf out names counts a k block sender view priority =
     writeOf (roomFor out names counts a k (k + 1)) out (proposalFrom names counts a k block sender view priority)

@@ -18,7 +18,7 @@ use super::number::u64_at;
 use super::number::wide;
 
 // The kind, byte 3 or a LOG's priority is wrong.
-fn ill_formed(s: &[u8]) -> bool
+fn is_malformed(s: &[u8]) -> bool
     requires { ⌜ headLength ≤ length (now s) ⌝ }
     ensures { λ r. ⌜ r ≡ malformed (now (s .entry)) ⌝ }
 {
@@ -57,7 +57,7 @@ pub fn read(n: u8, bytes: &[u8]) -> Message
     if (MOST_BLOCKS < k) | !(len == HEAD_LENGTH + BLOCK_WIDTH * k) {
         return Message::Refused(2);
     }
-    if ill_formed(bytes) {
+    if is_malformed(bytes) {
         return Message::Refused(3);
     }
     let sender = bytes[1];

@@ -1,28 +1,28 @@
 // Logs in the two lent lists, names in one and entry counts in the other: compared, filed from a message, copied.
-// Each answers for every place and length: what lies outside the lists is answered by false, and nothing is written.
+// Each answers for every place and length: what is no log within the lists is answered by false, and nothing is written.
 ghost use mathlib.Core.Path.{_≡_};
-ghost use Prim.Native.Nat.{_+_, _*_, _<_, _≤_};
-ghost use lib.ListN.{length};
+ghost use Prim.Native.Nat.{_<_};
 ghost use Rattle.message.specs.Limits.{nameWidth, countWidth};
 ghost use Rattle.message.specs.Numbers.{part, put, numberAt};
-ghost use Rattle.message.specs.Logs.{isPrefix, sameLog, sameBlock};
+ghost use Rattle.message.specs.Logs.{sameLog, sameBlock};
 ghost use Rattle.message.specs.Message.{countIn, namesIn, countsIn, blocksIn};
 ghost use Rattle.message.specs.Store.{blockAt, logAt, within, holdsLog, prefixAt, matchesAt, Stores, fileOf, copyOf};
 ghost use Rattle.message.specs.Asks.{TwoLogs, BytesAndBlock, BytesAndLog, Apart};
 use super::BLOCK_WIDTH;
 use super::COUNT_WIDTH;
 use super::HEAD_LENGTH;
+use super::MOST_BLOCKS;
 use super::NAME_WIDTH;
 use super::number::fits;
 use super::number::u16_at;
 use super::number::u64_at;
 use super::number::wide;
 
-// k places from a on lie within both lists.
+// k blocks from place a on are a log within both lists.
 pub(crate) fn is_within(names: &[u64], counts: &[u16], a: usize, k: usize) -> bool
     ensures { λ r. ⌜ r ≡ within (now (names .entry)) (now (counts .entry)) a k ⌝ }
 {
-    fits(a, k, names.len()) & fits(a, k, counts.len())
+    (k <= MOST_BLOCKS) & (fits(a, k, names.len()) & fits(a, k, counts.len()))
 }
 
 // The block at a is the block at b.
@@ -36,7 +36,7 @@ fn same_block(names: &[u64], counts: &[u16], a: usize, b: usize) -> bool
 // The k blocks at a are the k blocks at b.
 fn same_blocks(names: &[u64], counts: &[u16], a: usize, b: usize, k: usize) -> bool
     requires { ⌜ TwoLogs (now names) (now counts) a b k ⌝ }
-    ensures { λ r. ⌜ r ≡ isPrefix (logAt (now (names .entry)) (now (counts .entry)) a k) (logAt (now (names .entry)) (now (counts .entry)) b k) ⌝ }
+    ensures { λ r. ⌜ r ≡ sameLog (logAt (now (names .entry)) (now (counts .entry)) a k) (logAt (now (names .entry)) (now (counts .entry)) b k) ⌝ }
 {
     let mut left = k;
     let mut p = a;
@@ -53,7 +53,7 @@ fn same_blocks(names: &[u64], counts: &[u16], a: usize, b: usize, k: usize) -> b
     true
 }
 
-// The log of x blocks at a is a prefix of the log of y blocks at b.
+// The log of x blocks at a is a prefix of the log of y blocks at b. False where one of them is no log.
 pub fn is_prefix(names: &[u64], counts: &[u16], a: usize, x: usize, b: usize, y: usize) -> bool
     ensures { λ r. ⌜ r ≡ prefixAt (now (names .entry)) (now (counts .entry)) a x b y ⌝ }
 {
@@ -76,11 +76,12 @@ fn count_in(s: &[u8]) -> usize
     wide(s[0]) as usize
 }
 
-// The bytes have room for the blocks that byte 0 says.
+// Byte 0 says at most 64 blocks, and the bytes hold them.
 fn holds_log(s: &[u8]) -> bool
     ensures { λ r. ⌜ r ≡ holdsLog (now (s .entry)) ⌝ }
 {
-    HEAD_LENGTH + BLOCK_WIDTH * count_in(s) <= s.len()
+    let k = count_in(s);
+    (k <= MOST_BLOCKS) & (HEAD_LENGTH + BLOCK_WIDTH * k <= s.len())
 }
 
 // The block whose name stands at byte p and whose count stands at byte q is the block at place a.
@@ -113,7 +114,7 @@ fn blocks_match(s: &[u8], names: &[u64], counts: &[u16], a: usize, k: usize) -> 
     true
 }
 
-// The log in the message is the log of x blocks at place a.
+// The log in the message is the log of x blocks at place a. False where one of them is no log.
 pub fn matches(bytes: &[u8], names: &[u64], counts: &[u16], a: usize, x: usize) -> bool
     ensures { λ r. ⌜ r ≡ matchesAt (now (bytes .entry)) (now (names .entry)) (now (counts .entry)) a x ⌝ }
 {
@@ -145,7 +146,7 @@ fn file_blocks(names: &mut [u64], counts: &mut [u16], a: usize, s: &[u8], k: usi
     }
 }
 
-// The log in the message, filed from place a on. False, and nothing written, where it has no room there.
+// The log in the message, filed from place a on. False, and nothing written, where there is no log or no room there.
 pub fn file(names: &mut [u64], counts: &mut [u16], a: usize, bytes: &[u8]) -> bool
     ensures { λ r. ⌜ Stores (fileOf (now (names .entry)) (now (counts .entry)) a (now (bytes .entry))) r (now (names .exit)) (now (counts .exit)) ⌝ }
 {
@@ -174,7 +175,8 @@ fn copy_blocks(names: &mut [u64], counts: &mut [u16], a: usize, b: usize, k: usi
     }
 }
 
-// The log of k blocks at a, copied to b. False, and nothing written, where it does not stand before b or has no room there.
+// The log of k blocks at a, copied to b. False, and nothing written, where it does not end at or before b, is no log or has no
+// room there.
 pub fn copy(names: &mut [u64], counts: &mut [u16], a: usize, b: usize, k: usize) -> bool
     ensures { λ r. ⌜ Stores (copyOf (now (names .entry)) (now (counts .entry)) a b k) r (now (names .exit)) (now (counts .exit)) ⌝ }
 {

@@ -89,7 +89,7 @@ fn put_counts_and(out: &mut [u8], at: usize, counts: &[u16], a: usize, k: usize,
     put_number(out, at + COUNT_WIDTH * k, count as u64, COUNT_WIDTH);
 }
 
-// The k blocks at place a lie within the lists, and a message of m blocks may be and has room in the buffer.
+// The k blocks at place a are a log within the lists, a message may have m blocks, and the buffer has room for it.
 fn has_room(names: &[u64], counts: &[u16], a: usize, k: usize, m: usize, out: &[u8]) -> bool
     ensures { λ r. ⌜ r ≡ roomFor (now (out .entry)) (now (names .entry)) (now (counts .entry)) a k m ⌝ }
 {
@@ -131,8 +131,8 @@ fn put_proposal(
     put_counts_and(out, HEAD_LENGTH + NAME_WIDTH * m, counts, a, k, count);
 }
 
-// The LOG of the k blocks at place a. False, and no byte changed, where the log lies outside the lists or has too many blocks
-// or the message has no room.
+// The LOG of the k blocks at place a. False, and no byte changed, where they are no log within the lists or the message has no
+// room.
 pub fn write_log(
     out: &mut [u8],
     names: &[u64],

@@ -15,6 +15,12 @@ fn say_number(x: u64) {
     io::print_decimal(STDOUT_FILENO, x);
 }
 
+fn say_byte(x: u8) {
+    say(b":");
+    say_number(x as u64);
+    say(b"\n");
+}
+
 fn say_yes(yes: bool) {
     if yes {
         say(b": yes\n");
@@ -99,10 +105,12 @@ fn vector(
 
 // Refused: lengths, forms, the sender, the view.
 fn refusals(b: &mut [u8; 666]) {
+    vector(b"no bytes", b, 0, 3, 1, 0, 64, 0, 0);
     vector(b"15 bytes", b, 0, 3, 1, 0, 64, 0, 15);
     vector(b"25 bytes, k 1", b, 1, 3, 1, 0, 64, 0, 25);
     vector(b"27 bytes, k 1", b, 1, 3, 1, 0, 64, 0, 27);
     vector(b"666 bytes, k 65", b, 65, 3, 1, 0, 64, 0, 666);
+    vector(b"16 bytes, k 1, kind 3", b, 1, 3, 3, 0, 64, 0, 16);
     vector(b"kind 3", b, 0, 3, 3, 0, 64, 0, 16);
     vector(b"byte 3 is 1", b, 0, 3, 1, 1, 64, 0, 16);
     vector(b"LOG with a priority", b, 0, 3, 1, 0, 64, 9, 16);
@@ -125,18 +133,23 @@ fn readings(b: &mut [u8; 666]) {
 fn logs(out: &mut [u8; 656], names: &mut [u64; 128], counts: &mut [u16; 128]) {
     set_name(names, 0, 5);
     set_name(names, 1, 6);
+    set_name(names, 66, 9);
     set_count(counts, 0, 3);
     say(b"LOG written");
     say_yes(writer::write_log(out, names, counts, 0, 2, 1, 9));
     say(b"LOG read back");
     say_front(out, 36);
+    say(b"the byte past the LOG");
+    say_byte(out[36]);
     say(b"LOG filed at 64");
     say_yes(store::file(names, counts, 64, out));
     say(b"the LOG is what stands at 64");
     say_yes(store::matches(out, names, counts, 64, 2));
     say(b"the LOG is the first block at 64");
     say_yes(store::matches(out, names, counts, 64, 1));
-    say(b"LOG filed at 127");
+    say(b"the name past the LOG at 64:");
+    say_number(names[66]);
+    say(b"\nLOG filed at 127");
     say_yes(store::file(names, counts, 127, out));
 }
 

@@ -21,8 +21,8 @@ add-if2 c = search needs
 returns-2 : tie.Need-returns-2
 returns-2 c = search read-2
 
-ill-formed-requires : tie.Need-ill-formed-requires
-ill-formed-requires c κs = search needs
+is-malformed-requires : tie.Need-is-malformed-requires
+is-malformed-requires c κs = search needs
 
 returns-3 : tie.Need-returns-3
 returns-3 c = search read-3
@@ -67,7 +67,7 @@ read-spec =
     mul-if2
     add-if2
     returns-2
-    ill-formed-requires
+    is-malformed-requires
     returns-3
     shared-slice-read-sender
     returns-4

@@ -1,3 +1,4 @@
+use Rattle.message.proofs.StoreLaws.{block-is}
 use borrow.Author.Needs.{needs}
 use Rattle.message.proofs.store.block_matches.Statement.{statement}
 use Rattle.message.proofs.store.block_matches.Tie as tie
@@ -21,7 +22,7 @@ shared-slice-read-result-2 : tie.Need-shared-slice-read-result-2
 shared-slice-read-result-2 c = search needs
 
 returns : tie.Need-returns
-returns c = cc
+returns c = search block-is
 
 pub block-matches-spec : {M : Type 1} → statement M
 block-matches-spec =

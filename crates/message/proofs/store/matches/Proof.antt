@@ -13,7 +13,7 @@ count-in-requires : tie.Need-count-in-requires
 count-in-requires c κs = search needs
 
 blocks-match-requires : tie.Need-blocks-match-requires
-blocks-match-requires c κs = search match-asks
+blocks-match-requires c κs = match-asks _ _ _ _ _ _ _ (c .before .before .before .before .holds-log .ensures) (c .before .before .before .is-within .ensures) _ (c .before .count-in .ensures .0) (c .before .before .if1 .taken) (c .if2 .taken)
 
 returns : tie.Need-returns
 returns c = search match-is

@@ -2,14 +2,14 @@ use Rattle.message.proofs.StoreLaws.{walk-on, walk-off, walk-end}
 use Prim.Native.Nat.{_≤_, _+_}
 use mathlib.Core.Path.{_≡_, refl}
 use lib.ListN.{length}
-use Rattle.message.specs.Logs.{isPrefix}
+use Rattle.message.specs.Logs.{sameLog}
 use Rattle.message.specs.Store.{logAt}
 use borrow.Author.Needs.{needs}
 use Rattle.message.proofs.store.same_blocks.Statement.{statement}
 use Rattle.message.proofs.store.same_blocks.Tie as tie
 
 abbrev Inv-loop : tie.InvT-loop
-Inv-loop names counts a b k left₀ p₀ q₀ left p q = ((p + left ≤ length names) × (q + left ≤ length names)) × (((p + left ≤ length counts) × (q + left ≤ length counts)) × (isPrefix (logAt names counts a k) (logAt names counts b k) ≡ isPrefix (logAt names counts p left) (logAt names counts q left)))
+Inv-loop names counts a b k left₀ p₀ q₀ left p q = ((p + left ≤ length names) × (q + left ≤ length names)) × (((p + left ≤ length counts) × (q + left ≤ length counts)) × (sameLog (logAt names counts a k) (logAt names counts b k) ≡ sameLog (logAt names counts p left) (logAt names counts q left)))
 
 abbrev μ-loop : tie.MeasureT-loop
 μ-loop names counts a b k left₀ p₀ q₀ left p q = left

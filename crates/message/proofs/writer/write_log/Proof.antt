@@ -1,4 +1,4 @@
-use Rattle.message.proofs.WriterLaws.{room-of, log-done, log-not}
+use Rattle.message.proofs.WriterLaws.{room-of, message-done, message-not}
 use borrow.Author.Needs.{needs}
 use Rattle.message.proofs.writer.write_log.Statement.{statement}
 use Rattle.message.proofs.writer.write_log.Tie as tie
@@ -13,13 +13,13 @@ same-length : tie.Need-same-length
 same-length c = search needs
 
 returns : tie.Need-returns
-returns c = search log-done
+returns c = search message-done
 
 same-length-2 : tie.Need-same-length-2
 same-length-2 c = search needs
 
 returns-2 : tie.Need-returns-2
-returns-2 c = search log-not
+returns-2 c = search message-not
 
 pub write-log-spec : {M : Type 1} → statement M
 write-log-spec =

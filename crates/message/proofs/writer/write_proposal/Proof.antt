@@ -1,4 +1,4 @@
-use Rattle.message.proofs.WriterLaws.{room-of, proposal-done, proposal-not, proposal-full}
+use Rattle.message.proofs.WriterLaws.{room-of, message-done, message-not, proposal-full}
 use borrow.Author.Needs.{needs}
 use Rattle.message.proofs.writer.write_proposal.Statement.{statement}
 use Rattle.message.proofs.writer.write_proposal.Tie as tie
@@ -19,13 +19,13 @@ same-length : tie.Need-same-length
 same-length c = search needs
 
 returns-2 : tie.Need-returns-2
-returns-2 c = search proposal-done
+returns-2 c = search message-done
 
 same-length-2 : tie.Need-same-length-2
 same-length-2 c = search needs
 
 returns-3 : tie.Need-returns-3
-returns-3 c = search proposal-not
+returns-3 c = search message-not
 
 pub write-proposal-spec : {M : Type 1} → statement M
 write-proposal-spec =

@@ -1,7 +1,7 @@
-use Rattle.message.specs.Message.{malformed}
+use Rattle.message.proofs.ReaderLaws.{malformed-is}
 use borrow.Author.Needs.{needs}
-use Rattle.message.proofs.reader.ill_formed.Statement.{statement}
-use Rattle.message.proofs.reader.ill_formed.Tie as tie
+use Rattle.message.proofs.reader.is_malformed.Statement.{statement}
+use Rattle.message.proofs.reader.is_malformed.Tie as tie
 
 shared-slice-read-kind : tie.Need-shared-slice-read-kind
 shared-slice-read-kind c = search needs
@@ -13,9 +13,8 @@ u64-at-requires : tie.Need-u64-at-requires
 u64-at-requires c κs = search needs
 
 returns : tie.Need-returns
-unfolding malformed
-returns c = cc
+returns c = search malformed-is
 
-pub ill-formed-spec : {M : Type 1} → statement M
-ill-formed-spec =
+pub is-malformed-spec : {M : Type 1} → statement M
+is-malformed-spec =
     tie.close (tie.spec shared-slice-read-kind shared-slice-read-result u64-at-requires returns)
