@@ -13,7 +13,7 @@ use Rattle.message.proofs.TestLaws.{or-false}
 use Rattle.message.specs.declared.Message.the-variants.{Log, Proposal, Refused}
 
 -- a message that is not missized has the size that its block count says
-pub sized : (s : List ℕ) (k : ℕ) → (ltb mostBlocks k || not (eqb (length s) (headLength + blockWidth * k))) ≡ false → (k ≤ mostBlocks) × (length s ≡ headLength + blockWidth * k)
+sized : (s : List ℕ) (k : ℕ) → (ltb mostBlocks k || not (eqb (length s) (headLength + blockWidth * k))) ≡ false → (k ≤ mostBlocks) × (length s ≡ headLength + blockWidth * k)
 sized s k e =
     let p = or-false (ltb mostBlocks k) (not (eqb (length s) (headLength + blockWidth * k))) e in
     (ltb-false mostBlocks k (p .0), eqb-true (length s) (headLength + blockWidth * k) (not-false _ (p .1)))

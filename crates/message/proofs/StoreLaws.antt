@@ -92,8 +92,8 @@ count-none (x ∷ s) e = absurd (omega arith)
 pub holds-is : (s : List ℕ) (k : ℕ) → k ≡ getD s 0 0 → (leb k mostBlocks && leb (headLength + blockWidth * k) (length s)) ≡ holdsLog s
 holds-is s k e = rw e
 
--- a message that holds a log, and a log within the lists of as many blocks
-holds-asks : (s names counts : List ℕ) (a k : ℕ) (v w : Bool) → v ≡ holdsLog s → w ≡ within names counts a k → (v && w) ≡ true → k ≡ countIn s → BytesAndLog s names counts a k
+-- a message that holds a log, and a log within the lists of no more blocks
+holds-asks : (s names counts : List ℕ) (a k : ℕ) (v w : Bool) → v ≡ holdsLog s → w ≡ within names counts a k → (v && w) ≡ true → k ≤ countIn s → BytesAndLog s names counts a k
 holds-asks s names counts a k v w e f t g =
     let p = and-eq-true-iff v w .0 t in
     let m = within-of names counts a k (sym f ∙ p .1) in
@@ -137,8 +137,8 @@ module _ (s names counts : List ℕ) (a x : ℕ) (v w : Bool) (e : v ≡ holdsLo
   match-outside t = rw (← e, ← f, t)
 
   module _ (k : ℕ) (g : k ≡ getD s 0 0) where
-    pub match-asks : (v && w) ≡ true → k ≡ x → BytesAndLog s names counts a x
-    match-asks t h = holds-asks s names counts a x v w e f t (sym h ∙ g)
+    pub match-asks : (v && w) ≡ true → x ≤ k → BytesAndLog s names counts a x
+    match-asks t h = holds-asks s names counts a x v w e f t (omega arith)
 
     pub match-is : (r : Bool) → (v && w) ≡ true → k ≡ x → r ≡ sameLog (blocksIn s x) (logAt names counts a x) → r ≡ matchesAt s names counts a x
     unfolding matchesAt
@@ -178,7 +178,7 @@ module _ (names counts : List ℕ) (a : ℕ) (s : List ℕ) (k : ℕ) (g : k ≡
   file-outside t = stored-not (holdsLog s && within names counts a (countIn s)) names counts a (logIn s) (tested ∙ t)
 
   pub file-asks : (v && w) ≡ true → BytesAndLog s names counts a k
-  file-asks t = holds-asks s names counts a k v w e f t g
+  file-asks t = holds-asks s names counts a k v w e f t (omega arith)
 
   pub file-done : (ns cs : List ℕ) → (v && w) ≡ true → (ns ≡ put names a (namesIn s k)) × (cs ≡ put counts a (countsIn s k)) → Stores (fileOf names counts a s) true ns cs
   file-done ns cs t (m, n) =

@@ -1,6 +1,6 @@
 // Little-endian numbers in bytes, and the test of a range. A byte is widened by a call: its bound then comes with it.
 ghost use mathlib.Core.Path.{_≡_};
-ghost use Prim.Native.Nat.{_+_, _*_, _≤_, _<_};
+ghost use Prim.Native.Nat.{_+_, _≤_, _<_};
 ghost use lib.ListN.{length};
 ghost use lib.Dec.{leb};
 ghost use Rattle.message.specs.Numbers.{numberAt, put, bytesFor};

@@ -1,3 +1,4 @@
+use native.Mathlib.Omega.{arith}
 use Rattle.message.proofs.StoreLaws.{match-outside, match-asks, match-is, match-unlike}
 use borrow.Author.Needs.{needs}
 use Rattle.message.proofs.store.matches.Statement.{statement}
@@ -13,7 +14,7 @@ count-in-requires : tie.Need-count-in-requires
 count-in-requires c κs = search needs
 
 blocks-match-requires : tie.Need-blocks-match-requires
-blocks-match-requires c κs = match-asks _ _ _ _ _ _ _ (c .before .before .before .before .holds-log .ensures) (c .before .before .before .is-within .ensures) _ (c .before .count-in .ensures .0) (c .before .before .if1 .taken) (c .if2 .taken)
+blocks-match-requires c κs = match-asks _ _ _ _ _ _ _ (c .before .before .before .before .holds-log .ensures) (c .before .before .before .is-within .ensures) _ (c .before .count-in .ensures .0) (c .before .before .if1 .taken) (omega arith)
 
 returns : tie.Need-returns
 returns c = search match-is
