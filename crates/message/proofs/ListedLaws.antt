@@ -1,5 +1,5 @@
 -- Laws of a log in the two lent lists: its length, names and counts, its first block, and what storing a log leaves. Assumes nothing.
-use Prim.Native.Nat.{ℕ, suc, _+_, _-_, _≤_, _<_}
+use Prim.Native.Nat.{ℕ, zero, suc, _+_, _-_, _≤_, _<_}
 use native.Mathlib.Omega.{arith}
 use mathlib.Core.List.{List, [], _∷_}
 use mathlib.Core.Path.{_≡_, sym, ap, _∙_}
@@ -9,9 +9,9 @@ use lib.Dec.{leb}
 use lib.ListN.{length}
 use Rattle.message.specs.Limits.{mostBlocks}
 use Rattle.message.specs.Numbers.{part, put}
-use Rattle.message.specs.Logs.{Log, inStep, namesOf, countsOf}
+use Rattle.message.specs.Logs.{Log, Prefix, empty, more, inStep, namesOf, countsOf}
 use Rattle.message.specs.Store.{blockAt, logAt, within}
-use Rattle.message.proofs.LogLaws.{length-names, length-counts, log-in-step, names-in-step, counts-in-step, length-in-step}
+use Rattle.message.proofs.LogLaws.{prefix-length, prefix-same, length-names, length-counts, log-in-step, names-in-step, counts-in-step, length-in-step}
 use Rattle.message.proofs.PartLaws.{length-part, part-put, part-put-below, part-put-above}
 
 same-lengths : (names counts : List ℕ) (a k : ℕ) → length (part names a k) ≡ length (part counts a k)
@@ -38,6 +38,22 @@ log-step names counts a k h = let e : k ≡ suc (k - 1) = omega arith in ap (log
 pub log-empty : (names counts : List ℕ) (a k : ℕ) → k ≤ 0 → logAt names counts a k ≡ []
 unfolding logAt part inStep
 log-empty names counts a k h = let e : k ≡ 0 = omega arith in ap (logAt names counts a) e
+
+-- ---- a log's first blocks
+
+-- the first x blocks of a log of y are a prefix of it
+pub prefix-at : (names counts : List ℕ) (a x y : ℕ) → x ≤ y → Prefix (logAt names counts a x) (logAt names counts a y)
+unfolding logAt part inStep
+prefix-at names counts a zero y h = empty
+prefix-at names counts a (suc x) zero h = absurd (omega arith)
+prefix-at names counts a (suc x) (suc y) h = more (prefix-at names counts (a + 1) x y (omega arith))
+
+-- a prefix of a log in the lists is its first blocks
+pub prefix-there : (names counts : List ℕ) (a y : ℕ) (M : Log) → Prefix M (logAt names counts a y) → M ≡ logAt names counts a (length M)
+prefix-there names counts a y M h =
+    let l = prefix-length h in
+    let k = length-at names counts a y in
+    prefix-same h (prefix-at names counts a (length M) y (omega arith)) (sym (length-at names counts a (length M)))
 
 -- ---- within the lists, as facts
 

@@ -5,10 +5,13 @@ use native.Mathlib.Omega.{arith}
 use mathlib.Core.Path.{_≡_, refl, sym, ap, subst, _∙_}
 use mathlib.Core.Logic.{inl, inr, _↔_}
 use mathlib.Core.List.{List, [], _∷_, _++_}
-use mathlib.Core.Bool.{Bool, true, false, false≢true, and-eq-true-iff}
+use mathlib.Core.Bool.{Bool, true, false, _&&_, false≢true, and-eq-true-iff}
 use lib.ListN.{length}
-use borrow.Author.Tests.{eqb-true, eq-eqb}
-use Rattle.message.specs.Logs.{Block, Log, Prefix, empty, more, Conflict, Compatible, sameBlock, isPrefix, sameLog, inStep, namesOf, countsOf}
+use lib.Dec.{leb}
+use borrow.Author.Tests.{eqb-true, eq-eqb, leb-true, leb-false, le-leb, lt-leb}
+use Rattle.message.specs.Choice.{pick}
+use Rattle.message.specs.Logs.{Block, Log, Prefix, empty, more, Conflict, Compatible, sameBlock, isPrefix, sameLog, sharedLength, inStep, namesOf, countsOf}
+use Rattle.message.proofs.TestLaws.{either}
 
 -- ---- the order
 
@@ -39,6 +42,13 @@ prefix-tail (more {b = b} h) = (prefix-tail h .0, ap (λ l. b ∷ l) (prefix-tai
 
 pub prefix-iff : (P Q : Log) → Prefix P Q ↔ ((t : Log) × (P ++ t ≡ Q))
 prefix-iff P Q = (prefix-tail, λ e. subst (λ l. Prefix P l) (e .1) (prefix-append P (e .0)))
+
+-- two prefixes of one log, of one length
+pub prefix-same : {P Q R : Log} → Prefix P R → Prefix Q R → length P ≡ length Q → P ≡ Q
+prefix-same empty empty e = refl
+prefix-same empty (more k) e = absurd (omega arith)
+prefix-same (more h) empty e = absurd (omega arith)
+prefix-same (more {b = b} h) (more k) e = ap (λ l. b ∷ l) (prefix-same h k (omega arith))
 
 -- ---- logs that do not conflict
 
@@ -114,6 +124,34 @@ sameLog-refl (p ∷ P) = rw (sameBlock-refl p, sameLog-refl P)
 -- the test holds exactly of the same log
 pub sameLog-iff : (P Q : Log) → (sameLog P Q ≡ true) ↔ (P ≡ Q)
 sameLog-iff P Q = (sameLog-eq P Q, λ e. subst (λ (R : Log). sameLog P R ≡ true) e (sameLog-refl P))
+
+-- ---- how far two logs are alike
+
+pub shared-most : (P Q : Log) → (sharedLength P Q ≤ length P) × (sharedLength P Q ≤ length Q)
+unfolding sharedLength
+shared-most [] Q = (omega arith, omega arith)
+shared-most (p ∷ P) [] = (omega arith, omega arith)
+shared-most (p ∷ P) (q ∷ Q) = go (sameBlock p q) (shared-most P Q)
+  where
+    go : (t : Bool) → (sharedLength P Q ≤ length P) × (sharedLength P Q ≤ length Q)
+        → (pick t (suc (sharedLength P Q)) 0 ≤ length (p ∷ P)) × (pick t (suc (sharedLength P Q)) 0 ≤ length (q ∷ Q))
+    go true h = (omega arith, omega arith)
+    go false h = (omega arith, omega arith)
+
+leb-suc : (m n : ℕ) → leb m n ≡ leb (suc m) (suc n)
+leb-suc m n =
+    either (leb m n) (λ t. t ∙ sym (le-leb (suc m) (suc n) (omega (arith, leb-true m n t)))) (λ t. t ∙ sym (lt-leb (suc m) (suc n) (omega (arith, leb-false m n t))))
+
+-- of the prefixes of P, those of Q are the ones no longer than the shared length
+pub shared-covers : {M P : Log} → Prefix M P → (Q : Log) → isPrefix M Q ≡ leb (length M) (sharedLength P Q)
+unfolding isPrefix sharedLength
+shared-covers {P = P} empty Q = sym (le-leb 0 (sharedLength P Q) (omega arith))
+shared-covers (more {P = M} h) [] = sym (lt-leb (suc (length M)) 0 (omega arith))
+shared-covers (more {b = b} {P = M} {Q = P} h) (q ∷ Q) = go (sameBlock b q) (shared-covers h Q)
+  where
+    go : (t : Bool) → isPrefix M Q ≡ leb (length M) (sharedLength P Q) → (t && isPrefix M Q) ≡ leb (suc (length M)) (pick t (suc (sharedLength P Q)) 0)
+    go true e = e ∙ leb-suc (length M) (sharedLength P Q)
+    go false e = sym (lt-leb (suc (length M)) 0 (omega arith))
 
 -- To conflict and to be compatible are each other's negation: a claim may be read either way.
 pub no-conflict-iff : (P Q : Log) → (Conflict P Q → ⊥) ↔ Compatible P Q

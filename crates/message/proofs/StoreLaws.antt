@@ -3,52 +3,84 @@ use Prim.Native.Nat.{ℕ, zero, suc, _+_, _-_, _*_, _<_, _≤_}
 use native.Mathlib.Omega.{arith}
 use mathlib.Core.List.{List, [], _∷_}
 use mathlib.Core.Bool.{Bool, true, false, _&&_, and-eq-true-iff}
+use mathlib.Core.Logic.{_⊎_, inl, inr}
 use mathlib.Core.Path.{_≡_, refl, sym, ap, _∙_}
-use borrow.Author.Tests.{leb-true}
+use borrow.Author.Tests.{leb-true, leb-false, eq-eqb, ne-eqb}
 use lib.Dec.{leb, eqb}
 use lib.ListN.{length, getD}
 use Rattle.message.specs.Limits.{mostBlocks, headLength, nameWidth, countWidth, blockWidth}
+use Rattle.message.specs.Choice.{pick}
 use Rattle.message.specs.Numbers.{part, put, numberAt, numbersAt}
-use Rattle.message.specs.Logs.{Block, Log, isPrefix, sameLog, sameBlock, inStep, namesOf, countsOf}
-use Rattle.message.specs.Store.{blockAt, logAt, within, holdsLog, prefixAt, matchesAt, Stores, storeOf, fileOf, copyOf}
+use Rattle.message.specs.Logs.{Block, Log, isPrefix, sameLog, sameBlock, sharedLength, inStep, namesOf, countsOf}
+use Rattle.message.specs.Store.{blockAt, logAt, within, holdsLog, prefixAt, sharedAt, matchesAt, Stores, storeOf, fileOf, copyOf}
 use Rattle.message.specs.Message.{countIn, namesIn, countsIn, blocksIn, logIn}
 use Rattle.message.specs.Asks.{TwoLogs, BytesAndLog, Apart}
-use Rattle.message.proofs.TestLaws.{and-on, and-off}
-use Rattle.message.proofs.LogLaws.{isPrefix-iff, sameLog-iff, prefix-length}
+use Rattle.message.proofs.TestLaws.{either, and-on, and-off}
+use Rattle.message.proofs.LogLaws.{isPrefix-iff, sameLog-iff, prefix-refl, prefix-length, shared-most, shared-covers}
 use Rattle.message.proofs.ListedLaws.{length-at, names-at, counts-at, log-step, log-empty, within-of}
 use Rattle.message.proofs.Acceptance.{names-in, counts-in, length-blocks}
 use Rattle.message.proofs.LoopLaws.{numbers-step}
 
 -- ---- the walk along two logs in the lists
 
-walk-step : (names counts : List ℕ) (p q left : ℕ) → 0 < left
-    → sameLog (logAt names counts p left) (logAt names counts q left)
-    ≡ sameBlock (blockAt names counts p) (blockAt names counts q) && sameLog (logAt names counts (p + 1) (left - 1)) (logAt names counts (q + 1) (left - 1))
-unfolding sameLog
-walk-step names counts p q left h = let e = log-step names counts p left h in let f = log-step names counts q left h in λ i. sameLog (e i) (f i)
+-- a turn: alike, or not
+shared-step : (names counts : List ℕ) (p q left : ℕ) → 0 < left
+    → sharedLength (logAt names counts p left) (logAt names counts q left)
+    ≡ pick (sameBlock (blockAt names counts p) (blockAt names counts q)) (suc (sharedLength (logAt names counts (p + 1) (left - 1)) (logAt names counts (q + 1) (left - 1)))) 0
+unfolding sharedLength
+shared-step names counts p q left h = let e = log-step names counts p left h in let f = log-step names counts q left h in λ i. sharedLength (e i) (f i)
 
-module _ (z : Bool) (names counts : List ℕ) (p q left : ℕ) (e : z ≡ sameLog (logAt names counts p left) (logAt names counts q left)) where
+shared-none : (names counts : List ℕ) (p q left : ℕ) → left ≤ 0 → sharedLength (logAt names counts p left) (logAt names counts q left) ≡ 0
+unfolding sharedLength
+shared-none names counts p q left h = let e = log-empty names counts p left h in λ i. sharedLength (e i) (logAt names counts q left)
+
+-- z is the whole, k - left blocks of it are passed
+module _ (z k : ℕ) (names counts : List ℕ) (p q left : ℕ) (e : z ≡ (k - left) + sharedLength (logAt names counts p left) (logAt names counts q left)) (few : left ≤ k) where
   module _ (r : Bool) (h : 0 < left) (s : r ≡ sameBlock (blockAt names counts p) (blockAt names counts q)) where
-    pub walk-on : r ≡ true → z ≡ sameLog (logAt names counts (p + 1) (left - 1)) (logAt names counts (q + 1) (left - 1))
-    walk-on = and-on z r _ _ (e ∙ walk-step names counts p q left h) s
+    abbrev rest : ℕ
+    rest = sharedLength (logAt names counts (p + 1) (left - 1)) (logAt names counts (q + 1) (left - 1))
 
-    pub walk-off : r ≡ false → false ≡ z
-    walk-off = and-off z r _ _ (e ∙ walk-step names counts p q left h) s
+    turn : sharedLength (logAt names counts p left) (logAt names counts q left) ≡ pick r (suc rest) 0
+    turn = shared-step names counts p q left h ∙ ap (λ (t : Bool). pick t (suc rest) 0) (sym s)
 
-  pub walk-end : left ≤ 0 → true ≡ z
-  unfolding sameLog
-  walk-end h = sym (e ∙ rw (log-empty names counts p left h, log-empty names counts q left h))
+    pub walk-on : r ≡ true → z ≡ (k - (left - 1)) + sharedLength (logAt names counts (p + 1) (left - 1)) (logAt names counts (q + 1) (left - 1))
+    walk-on t = let f = turn ∙ ap (λ (b : Bool). pick b (suc rest) 0) t in omega arith
+
+    pub walk-off : r ≡ false → (k - left) ≡ z
+    walk-off t = let f = turn ∙ ap (λ (b : Bool). pick b (suc rest) 0) t in omega arith
+
+  pub walk-end : left ≤ 0 → k ≡ z
+  walk-end h = let f = shared-none names counts p q left h in omega arith
 
 -- ---- prefix
 
--- a log of x blocks is a prefix of a longer one where it is the same as its first x blocks
+-- only the first blocks that both have are walked
+shared-cut : (names counts : List ℕ) (a b x y k : ℕ) → k ≤ x → k ≤ y → (x ≤ k) ⊎ (y ≤ k)
+    → sharedLength (logAt names counts a k) (logAt names counts b k) ≡ sharedLength (logAt names counts a x) (logAt names counts b y)
+unfolding logAt part inStep sharedLength
+shared-cut names counts a b zero y zero h g c = refl
+shared-cut names counts a b (suc x) zero zero h g c = refl
+shared-cut names counts a b (suc x) (suc y) zero h g c = absurd (elim c [ inl l ↦ omega arith | inr l ↦ omega arith ])
+shared-cut names counts a b zero y (suc k) h g c = absurd (omega arith)
+shared-cut names counts a b (suc x) zero (suc k) h g c = absurd (omega arith)
+shared-cut names counts a b (suc x) (suc y) (suc k) h g c =
+    ap (λ (n : ℕ). pick (sameBlock (blockAt names counts a) (blockAt names counts b)) (suc n) 0)
+    (shared-cut names counts (a + 1) (b + 1) x y k (omega arith) (omega arith) (elim c [ inl l ↦ inl (omega arith) | inr l ↦ inr (omega arith) ]))
+
+-- a log of x blocks is a prefix of one not shorter where the x blocks are alike
 prefix-cut : (names counts : List ℕ) (a x b y : ℕ) → x ≤ y
-    → sameLog (logAt names counts a x) (logAt names counts b x) ≡ isPrefix (logAt names counts a x) (logAt names counts b y)
-unfolding logAt part inStep isPrefix sameLog
-prefix-cut names counts a zero b y h = refl
-prefix-cut names counts a (suc x) b zero h = absurd (omega arith)
-prefix-cut names counts a (suc x) b (suc y) h =
-    ap (λ (t : Bool). sameBlock (blockAt names counts a) (blockAt names counts b) && t) (prefix-cut names counts (a + 1) x (b + 1) y (omega arith))
+    → eqb (sharedLength (logAt names counts a x) (logAt names counts b x)) x ≡ isPrefix (logAt names counts a x) (logAt names counts b y)
+prefix-cut names counts a x b y h =
+    let s = shared-cut names counts a b x y x (omega arith) h (inl (omega arith)) in
+    let m = shared-most (logAt names counts a x) (logAt names counts b y) .0 in
+    let l = length-at names counts a x in
+    ap (λ (n : ℕ). eqb n x) s
+    ∙ eqb-leb (sharedLength (logAt names counts a x) (logAt names counts b y)) x (omega arith)
+    ∙ ap (λ (n : ℕ). leb n (sharedLength (logAt names counts a x) (logAt names counts b y))) (sym l)
+    ∙ sym (shared-covers (prefix-refl (logAt names counts a x)) (logAt names counts b y))
+  where
+    eqb-leb : (n x : ℕ) → n ≤ x → eqb n x ≡ leb x n
+    eqb-leb n x h = either (leb x n) (λ t. let q = leb-true x n t in eq-eqb n x (omega arith) ∙ sym t) (λ t. let q = leb-false x n t in ne-eqb n x (λ e. omega arith) ∙ sym t)
 
 -- a log is no prefix of a shorter one
 not-longer : (names counts : List ℕ) (a x b y : ℕ) → y < x → isPrefix (logAt names counts a x) (logAt names counts b y) ≡ false
@@ -71,16 +103,46 @@ module _ (names counts : List ℕ) (a x b y : ℕ) (v w : Bool) (e : v ≡ withi
   unfolding prefixAt
   prefix-longer t h = rw (← e, ← f, t, not-longer names counts a x b y h)
 
-  pub prefix-is : (r : Bool) → (v && w) ≡ true → x ≤ y → r ≡ sameLog (logAt names counts a x) (logAt names counts b x) → r ≡ prefixAt names counts a x b y
+  pub prefix-is : (r : ℕ) → (v && w) ≡ true → x ≤ y → r ≡ sharedLength (logAt names counts a x) (logAt names counts b x) → eqb r x ≡ prefixAt names counts a x b y
   unfolding prefixAt
-  prefix-is r t h q = rw (← e, ← f, t) (q ∙ prefix-cut names counts a x b y h)
+  prefix-is r t h q = rw (← e, ← f, t) (ap (λ (n : ℕ). eqb n x) q ∙ prefix-cut names counts a x b y h)
 
-  pub prefix-asks : (v && w) ≡ true → x ≤ y → TwoLogs names counts a b x
-  prefix-asks t h =
+  -- the walk's places, for as many blocks as both logs have
+  asks : (k : ℕ) → (v && w) ≡ true → k ≤ x → k ≤ y → TwoLogs names counts a b k
+  asks k t h g =
       let s = and-eq-true-iff v w .0 t in
       let m = within-of names counts a x (sym e ∙ s .0) in
       let n = within-of names counts b y (sym f ∙ s .1) in
-      record { firstName = m .inNames; secondName = omega arith; firstCount = m .inCounts; secondCount = omega arith }
+      record { firstName = omega arith; secondName = omega arith; firstCount = omega arith; secondCount = omega arith }
+
+  pub first-asks : (v && w) ≡ true → x ≤ y → TwoLogs names counts a b x
+  first-asks t h = asks x t (omega arith) h
+
+  pub second-asks : (v && w) ≡ true → y < x → TwoLogs names counts a b y
+  second-asks t h = asks y t (omega arith) (omega arith)
+
+  pub shared-outside : (v && w) ≡ false → (0 ≡ sharedAt names counts a x b y) × (0 ≤ mostBlocks)
+  unfolding sharedAt
+  shared-outside t = (rw (← e, ← f, t), omega arith)
+
+  is : (r k : ℕ) → (v && w) ≡ true → k ≤ x → k ≤ y → (x ≤ k) ⊎ (y ≤ k) → r ≡ sharedLength (logAt names counts a k) (logAt names counts b k)
+      → (r ≡ sharedAt names counts a x b y) × (r ≤ mostBlocks)
+  unfolding sharedAt
+  is r k t h g c q =
+      let s = and-eq-true-iff v w .0 t in
+      let m = within-of names counts a x (sym e ∙ s .0) .few in
+      let p = q ∙ shared-cut names counts a b x y k h g c in
+      let n = shared-most (logAt names counts a x) (logAt names counts b y) .0 in
+      let l = length-at names counts a x in
+      (rw (← e, ← f, t) p, omega arith)
+
+  pub shared-first : (r : ℕ) → (v && w) ≡ true → x ≤ y → r ≡ sharedLength (logAt names counts a x) (logAt names counts b x)
+      → (r ≡ sharedAt names counts a x b y) × (r ≤ mostBlocks)
+  shared-first r t h q = is r x t (omega arith) h (inl (omega arith)) q
+
+  pub shared-second : (r : ℕ) → (v && w) ≡ true → y < x → r ≡ sharedLength (logAt names counts a y) (logAt names counts b y)
+      → (r ≡ sharedAt names counts a x b y) × (r ≤ mostBlocks)
+  shared-second r t h q = is r y t (omega arith) (omega arith) (inr (omega arith)) q
 
 -- ---- the log in a message
 

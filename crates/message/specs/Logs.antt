@@ -1,9 +1,10 @@
 -- Blocks and logs, prefix and conflict (document 01, "Words"). Assumes nothing.
-use Prim.Native.Nat.{ℕ}
+use Prim.Native.Nat.{ℕ, suc}
 use mathlib.Core.List.{List, [], _∷_}
 use mathlib.Core.Bool.{Bool, true, false, _&&_}
 use mathlib.Core.Logic.{_⊎_}
 use lib.Dec.{eqb}
+use Rattle.message.specs.Choice.{pick}
 
 -- A block: its name and its entry count.
 pub record Block : Type 0 where
@@ -42,6 +43,12 @@ sameLog [] [] = true
 sameLog [] (q ∷ Q) = false
 sameLog (p ∷ P) [] = false
 sameLog (p ∷ P) (q ∷ Q) = sameBlock p q && sameLog P Q
+
+-- how many blocks two logs start with alike (LogLaws: shared-covers)
+unfoldable pub sharedLength : Log → Log → ℕ
+sharedLength [] Q = 0
+sharedLength (p ∷ P) [] = 0
+sharedLength (p ∷ P) (q ∷ Q) = pick (sameBlock p q) (suc (sharedLength P Q)) 0
 
 -- ---- a log as its names and its counts
 

@@ -9,7 +9,7 @@ use lib.ListN.{length, getD}
 use Rattle.message.specs.Limits.{mostBlocks, headLength, blockWidth}
 use Rattle.message.specs.Choice.{pick}
 use Rattle.message.specs.Numbers.{part, put}
-use Rattle.message.specs.Logs.{Block, Log, isPrefix, sameLog, inStep, namesOf, countsOf}
+use Rattle.message.specs.Logs.{Block, Log, isPrefix, sameLog, sharedLength, inStep, namesOf, countsOf}
 use Rattle.message.specs.Message.{Meaning, logMessage, proposalMessage, bytesOf, countIn, logIn}
 
 -- the block at place a
@@ -34,6 +34,11 @@ holdsLog s = leb (countIn s) mostBlocks && leb (headLength + blockWidth * countI
 unfoldable pub prefixAt : List ℕ → List ℕ → ℕ → ℕ → ℕ → ℕ → Bool
 prefixAt names counts a x b y =
     (within names counts a x && within names counts b y) && isPrefix (logAt names counts a x) (logAt names counts b y)
+
+-- How many blocks the two start with alike; 0, where one of them is no log within the lists.
+unfoldable pub sharedAt : List ℕ → List ℕ → ℕ → ℕ → ℕ → ℕ → ℕ
+sharedAt names counts a x b y =
+    pick (within names counts a x && within names counts b y) (sharedLength (logAt names counts a x) (logAt names counts b y)) 0
 
 -- The log in the message s is the log of x blocks at a; no, where one of them is no log.
 unfoldable pub matchesAt : List ℕ → List ℕ → List ℕ → ℕ → ℕ → Bool

@@ -1,12 +1,12 @@
 // Logs in the two lent lists, names in one and entry counts in the other: compared, filed from a message, copied.
 // Each answers for every place and length: what is no log within the lists is answered by false, and nothing is written.
 ghost use mathlib.Core.Path.{_≡_};
-ghost use Prim.Native.Nat.{_<_};
-ghost use Rattle.message.specs.Limits.{nameWidth, countWidth};
+ghost use Prim.Native.Nat.{_<_, _≤_};
+ghost use Rattle.message.specs.Limits.{mostBlocks, nameWidth, countWidth};
 ghost use Rattle.message.specs.Numbers.{part, put, numberAt};
-ghost use Rattle.message.specs.Logs.{sameLog, sameBlock};
+ghost use Rattle.message.specs.Logs.{sameLog, sameBlock, sharedLength};
 ghost use Rattle.message.specs.Message.{countIn, namesIn, countsIn, blocksIn};
-ghost use Rattle.message.specs.Store.{blockAt, logAt, within, holdsLog, prefixAt, matchesAt, Stores, fileOf, copyOf};
+ghost use Rattle.message.specs.Store.{blockAt, logAt, within, holdsLog, prefixAt, sharedAt, matchesAt, Stores, fileOf, copyOf};
 ghost use Rattle.message.specs.Asks.{TwoLogs, BytesAndBlock, BytesAndLog, Apart};
 use super::BLOCK_WIDTH;
 use super::COUNT_WIDTH;
@@ -33,10 +33,10 @@ fn same_block(names: &[u64], counts: &[u16], a: usize, b: usize) -> bool
     (names[a] == names[b]) & (counts[a] == counts[b])
 }
 
-// The k blocks at a are the k blocks at b.
-fn same_blocks(names: &[u64], counts: &[u16], a: usize, b: usize, k: usize) -> bool
+// How many of the k blocks at a and the k blocks at b are alike before two differ.
+fn shared_blocks(names: &[u64], counts: &[u16], a: usize, b: usize, k: usize) -> usize
     requires { ⌜ TwoLogs (now names) (now counts) a b k ⌝ }
-    ensures { λ r. ⌜ r ≡ sameLog (logAt (now (names .entry)) (now (counts .entry)) a k) (logAt (now (names .entry)) (now (counts .entry)) b k) ⌝ }
+    ensures { λ r. ⌜ r ≡ sharedLength (logAt (now (names .entry)) (now (counts .entry)) a k) (logAt (now (names .entry)) (now (counts .entry)) b k) ⌝ }
 {
     let mut left = k;
     let mut p = a;
@@ -47,10 +47,10 @@ fn same_blocks(names: &[u64], counts: &[u16], a: usize, b: usize, k: usize) -> b
             q += 1;
             left -= 1;
         } else {
-            return false;
+            return k - left;
         }
     }
-    true
+    k
 }
 
 // The log of x blocks at a is a prefix of the log of y blocks at b. False where one of them is no log.
@@ -61,9 +61,22 @@ pub fn is_prefix(names: &[u64], counts: &[u16], a: usize, x: usize, b: usize, y:
         if y < x {
             return false;
         }
-        return same_blocks(names, counts, a, b, x);
+        return shared_blocks(names, counts, a, b, x) == x;
     }
     false
+}
+
+// How many blocks the two start with alike, in one walk. 0 where one of them is no log.
+pub fn shared(names: &[u64], counts: &[u16], a: usize, x: usize, b: usize, y: usize) -> usize
+    ensures { λ r. ⌜ (r ≡ sharedAt (now (names .entry)) (now (counts .entry)) a x b y) × (r ≤ mostBlocks) ⌝ }
+{
+    if is_within(names, counts, a, x) & is_within(names, counts, b, y) {
+        if x <= y {
+            return shared_blocks(names, counts, a, b, x);
+        }
+        return shared_blocks(names, counts, a, b, y);
+    }
+    0
 }
 
 // The block count that the bytes say; no bytes say none.
@@ -77,7 +90,7 @@ fn count_in(s: &[u8]) -> usize
 }
 
 // Byte 0 says at most 64 blocks, and the bytes hold them.
-fn holds_log(s: &[u8]) -> bool
+pub fn holds_log(s: &[u8]) -> bool
     ensures { λ r. ⌜ r ≡ holdsLog (now (s .entry)) ⌝ }
 {
     let k = count_in(s);

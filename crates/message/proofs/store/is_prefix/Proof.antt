@@ -1,4 +1,4 @@
-use Rattle.message.proofs.StoreLaws.{prefix-outside, prefix-longer, prefix-is, prefix-asks}
+use Rattle.message.proofs.StoreLaws.{prefix-outside, prefix-longer, prefix-is, first-asks}
 use borrow.Author.Needs.{needs}
 use Rattle.message.proofs.store.is_prefix.Statement.{statement}
 use Rattle.message.proofs.store.is_prefix.Tie as tie
@@ -12,8 +12,8 @@ is-within-requires-2 c κs = search needs
 returns : tie.Need-returns
 returns c = search prefix-longer
 
-same-blocks-requires : tie.Need-same-blocks-requires
-same-blocks-requires c κs = prefix-asks _ _ _ _ _ _ _ _ (c .before .before .before .is-within .ensures) (c .before .before .is-within2 .ensures) (c .before .if1 .taken) (c .if2 .left)
+shared-blocks-requires : tie.Need-shared-blocks-requires
+shared-blocks-requires c κs = first-asks _ _ _ _ _ _ _ _ (c .before .before .before .is-within .ensures) (c .before .before .is-within2 .ensures) (c .before .if1 .taken) (c .if2 .left)
 
 returns-2 : tie.Need-returns-2
 returns-2 c = search prefix-is
@@ -28,6 +28,6 @@ is-prefix-spec =
     is-within-requires
     is-within-requires-2
     returns
-    same-blocks-requires
+    shared-blocks-requires
     returns-2
     returns-3)

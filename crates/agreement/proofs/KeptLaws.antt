@@ -1,0 +1,191 @@
+-- Filing is the one rule of Kept: the answer is the rule's, what is kept of the sender is the rule's, and of every other sender what it was.
+-- Assumes nothing.
+use Prim.Native.Nat.{ℕ, _≤_}
+use native.Mathlib.Decide.{decLe}
+use native.Mathlib.Omega.{arith}
+use mathlib.Core.Bool.{Bool, true, false, _&&_}
+use mathlib.Core.List.{List}
+use mathlib.Core.Path.{_≡_, refl, sym, ap, _∙_}
+use lib.Dec.{eqb}
+use lib.ListN.{length, getD}
+use lib.Seq.{getD-set-same, getD-set-other}
+use Rattle.message.specs.Limits.{mostBlocks}
+use Rattle.message.specs.Numbers.{put}
+use Rattle.message.specs.Logs.{sameLog, namesOf, countsOf}
+use Rattle.message.specs.Message.{countIn, logIn}
+use Rattle.message.specs.Store.{logAt}
+use Rattle.message.proofs.TestLaws.{either}
+use Rattle.message.proofs.Acceptance.{length-blocks}
+use Rattle.message.proofs.ListedLaws.{log-stored, log-before, log-past}
+use Rattle.agreement.specs.Limits.{mostSenders, placeOf}
+use Rattle.agreement.specs.Sets.{member}
+use Rattle.agreement.specs.Record.{isVoter, isEquivocator, filedLog}
+use Rattle.agreement.specs.Filing.{unfit, fileOf}
+use Rattle.agreement.specs.Proposals.{fileProposalOf}
+use Rattle.agreement.specs.Kept.{wordOn, keep, keptLog, Proposed, sameProposal, keptProposal}
+use Rattle.agreement.specs.Asks.{Fit}
+use Rattle.agreement.specs.declared.Agreement.{Agreement}
+use Rattle.agreement.specs.declared.Proposals.{Proposals}
+use Rattle.agreement.proofs.FilingLaws.{fit-not-unfit, few-blocks}
+
+-- by what was found: two differed before; there is one, and this is the same, or another; there is none
+cases : (A : Type 0) (q v e : Bool) → (q ≡ true → A) → (q ≡ false → v ≡ true → e ≡ true → A) → (q ≡ false → v ≡ true → e ≡ false → A) → (q ≡ false → v ≡ false → A) → A
+cases A q v e f g h k = either q f (λ a. either v (λ b. either e (g a b) (h a b)) (k a))
+
+-- ---- the list places
+
+module _ (names counts : List ℕ) (base : ℕ) (s : List ℕ) (i : ℕ) (f : Fit names counts base s i) where
+  -- the log in the bytes, read back where it was filed
+  filed-back : logAt (put names (placeOf base i) (namesOf (logIn s))) (put counts (placeOf base i) (countsOf (logIn s))) (placeOf base i) (countIn s) ≡ logIn s
+  filed-back =
+      let e = length-blocks s (countIn s) in
+      let n = f .inNames in
+      let m = f .inCounts in
+      let h = f .few in
+      let k = few-blocks names counts base s i f in
+      ap (logAt (put names (placeOf base i) (namesOf (logIn s))) (put counts (placeOf base i) (countsOf (logIn s))) (placeOf base i)) (sym e)
+      ∙ log-stored names counts (placeOf base i) (logIn s) (omega arith) (omega arith)
+
+  -- another sender's log stays
+  filed-apart : (j k : ℕ) → (j ≡ i → ⊥) → k ≤ mostBlocks
+      → logAt (put names (placeOf base i) (namesOf (logIn s))) (put counts (placeOf base i) (countsOf (logIn s))) (placeOf base j) k ≡ logAt names counts (placeOf base j) k
+  filed-apart j k d h =
+      let e = length-blocks s (countIn s) in
+      let b = few-blocks names counts base s i f in
+      elim (decLe i j) [
+        | yes l ↦ log-past names counts (placeOf base i) (logIn s) (placeOf base j) k (omega arith)
+        | no l ↦ log-before names counts (placeOf base i) (logIn s) (placeOf base j) k (omega arith)
+      ]
+
+-- what a record keeps of each sender: numbers and truth values for 32
+pub record Sized (g : Agreement) : Type 0 where
+  pub lengths : length (g .lengths) ≡ mostSenders
+  pub voters : length (g .voters) ≡ mostSenders
+  pub equivocators : length (g .equivocators) ≡ mostSenders
+
+module _ (g : Agreement) (names counts : List ℕ) (base : ℕ) (s : List ℕ) (i : ℕ) (f : Fit names counts base s i) where
+  cases3 : (A : Type 0) → (isEquivocator g i ≡ true → A)
+      → (isEquivocator g i ≡ false → isVoter g i ≡ true → sameLog (logIn s) (filedLog names counts base (g .lengths) i) ≡ true → A)
+      → (isEquivocator g i ≡ false → isVoter g i ≡ true → sameLog (logIn s) (filedLog names counts base (g .lengths) i) ≡ false → A)
+      → (isEquivocator g i ≡ false → isVoter g i ≡ false → A) → A
+  cases3 A = cases A (isEquivocator g i) (isVoter g i) (sameLog (logIn s) (filedLog names counts base (g .lengths) i))
+
+  no : unfit names counts base s i ≡ false
+  no = fit-not-unfit names counts base s i f
+
+  -- the answer is the rule's
+  pub file-word : fileOf g names counts base s i .word ≡ wordOn sameLog (keptLog names counts base g i) (logIn s)
+  unfolding fileOf wordOn keptLog
+  file-word =
+      cases3 (fileOf g names counts base s i .word ≡ wordOn sameLog (keptLog names counts base g i) (logIn s))
+      (λ q. rw (no, q) refl) (λ q v e. rw (no, q, v, e) refl) (λ q v e. rw (no, q, v, e) refl) (λ q v. rw (no, q, v) refl)
+
+  -- what is kept of the sender is the rule's
+  pub file-kept : Sized g
+      → keptLog (fileOf g names counts base s i .names) (fileOf g names counts base s i .counts) base (fileOf g names counts base s i .agreement) i
+      ≡ keep sameLog (keptLog names counts base g i) (logIn s)
+  unfolding fileOf keep keptLog
+  file-kept z =
+      cases3
+      (keptLog (fileOf g names counts base s i .names) (fileOf g names counts base s i .counts) base (fileOf g names counts base s i .agreement) i
+      ≡ keep sameLog (keptLog names counts base g i) (logIn s))
+      (λ q. rw (no, q) (rw q refl))
+      (λ q v e. rw (no, q, v, e) (rw (q, v) refl))
+      (λ q v e. rw (no, q, v, e) (rw (getD-set-same (g .equivocators) i true false (omega (arith, f .few, z .equivocators))) refl))
+      (λ q v. rw (no, q, v) (rw (
+        q,
+        getD-set-same (g .voters) i true false (omega (arith, f .few, z .voters)),
+        getD-set-same (g .lengths) i (countIn s) 0 (omega (arith, f .few, z .lengths)),
+        filed-back names counts base s i f,
+      ) refl))
+
+  -- what is kept of another sender stays
+  pub file-apart : (j : ℕ) → (j ≡ i → ⊥) → getD (g .lengths) j 0 ≤ mostBlocks
+      → keptLog (fileOf g names counts base s i .names) (fileOf g names counts base s i .counts) base (fileOf g names counts base s i .agreement) j
+      ≡ keptLog names counts base g j
+  unfolding fileOf keptLog
+  file-apart j d h =
+      cases3
+      (keptLog (fileOf g names counts base s i .names) (fileOf g names counts base s i .counts) base (fileOf g names counts base s i .agreement) j
+      ≡ keptLog names counts base g j)
+      (λ q. rw (no, q) refl)
+      (λ q v e. rw (no, q, v, e) refl)
+      (λ q v e. rw (no, q, v, e, getD-set-other (g .equivocators) i j true false d, getD-set-other (g .voters) i j false false d) refl)
+      (λ q v. rw (
+        no,
+        q,
+        v,
+        getD-set-other (g .voters) i j true false d,
+        getD-set-other (g .lengths) i j (countIn s) 0 d,
+        filed-apart names counts base s i f j (getD (g .lengths) j 0) d h,
+      ) refl)
+
+-- ---- the same of proposals
+
+pub record SizedProposals (g : Proposals) : Type 0 where
+  pub lengths : length (g .lengths) ≡ mostSenders
+  pub priorities : length (g .priorities) ≡ mostSenders
+  pub filed : length (g .filed) ≡ mostSenders
+  pub aside : length (g .aside) ≡ mostSenders
+
+module _ (g : Proposals) (names counts : List ℕ) (base : ℕ) (s : List ℕ) (i priority : ℕ) (f : Fit names counts base s i) where
+  -- the proposal in the bytes
+  abbrev sent : Proposed
+  sent = record { log = logIn s; priority = priority }
+
+  -- as it is filed already
+  abbrev same : Bool
+  same = sameLog (logIn s) (filedLog names counts base (g .lengths) i) && eqb priority (getD (g .priorities) i 0)
+
+  found : (A : Type 0) → (member (g .aside) i ≡ true → A) → (member (g .aside) i ≡ false → member (g .filed) i ≡ true → same ≡ true → A)
+      → (member (g .aside) i ≡ false → member (g .filed) i ≡ true → same ≡ false → A) → (member (g .aside) i ≡ false → member (g .filed) i ≡ false → A) → A
+  found A = cases A (member (g .aside) i) (member (g .filed) i) same
+
+  fine : unfit names counts base s i ≡ false
+  fine = fit-not-unfit names counts base s i f
+
+  pub proposal-word : fileProposalOf g names counts base s i priority .word ≡ wordOn sameProposal (keptProposal names counts base g i) sent
+  unfolding fileProposalOf wordOn keptProposal
+  proposal-word =
+      found (fileProposalOf g names counts base s i priority .word ≡ wordOn sameProposal (keptProposal names counts base g i) sent)
+      (λ q. rw (fine, q) refl) (λ q v e. rw (fine, q, v, e) refl) (λ q v e. rw (fine, q, v, e) refl) (λ q v. rw (fine, q, v) refl)
+
+  pub proposal-kept : SizedProposals g
+      → keptProposal (fileProposalOf g names counts base s i priority .names) (fileProposalOf g names counts base s i priority .counts) base (fileProposalOf g names counts base s i priority .proposals) i
+      ≡ keep sameProposal (keptProposal names counts base g i) sent
+  unfolding fileProposalOf keep keptProposal
+  proposal-kept z =
+      found
+      (keptProposal (fileProposalOf g names counts base s i priority .names) (fileProposalOf g names counts base s i priority .counts) base (fileProposalOf g names counts base s i priority .proposals) i
+      ≡ keep sameProposal (keptProposal names counts base g i) sent)
+      (λ q. rw (fine, q) (rw q refl))
+      (λ q v e. rw (fine, q, v, e) (rw (q, v) refl))
+      (λ q v e. rw (fine, q, v, e) (rw (getD-set-same (g .aside) i true false (omega (arith, f .few, z .aside))) refl))
+      (λ q v. rw (fine, q, v) (rw (
+        q,
+        getD-set-same (g .filed) i true false (omega (arith, f .few, z .filed)),
+        getD-set-same (g .lengths) i (countIn s) 0 (omega (arith, f .few, z .lengths)),
+        getD-set-same (g .priorities) i priority 0 (omega (arith, f .few, z .priorities)),
+        filed-back names counts base s i f,
+      ) refl))
+
+  pub proposal-apart : (j : ℕ) → (j ≡ i → ⊥) → getD (g .lengths) j 0 ≤ mostBlocks
+      → keptProposal (fileProposalOf g names counts base s i priority .names) (fileProposalOf g names counts base s i priority .counts) base (fileProposalOf g names counts base s i priority .proposals) j
+      ≡ keptProposal names counts base g j
+  unfolding fileProposalOf keptProposal
+  proposal-apart j d h =
+      found
+      (keptProposal (fileProposalOf g names counts base s i priority .names) (fileProposalOf g names counts base s i priority .counts) base (fileProposalOf g names counts base s i priority .proposals) j
+      ≡ keptProposal names counts base g j)
+      (λ q. rw (fine, q) refl)
+      (λ q v e. rw (fine, q, v, e) refl)
+      (λ q v e. rw (fine, q, v, e, getD-set-other (g .aside) i j true false d) refl)
+      (λ q v. rw (
+        fine,
+        q,
+        v,
+        getD-set-other (g .filed) i j true false d,
+        getD-set-other (g .lengths) i j (countIn s) 0 d,
+        getD-set-other (g .priorities) i j priority 0 d,
+        filed-apart names counts base s i f j (getD (g .lengths) j 0) d h,
+      ) refl)

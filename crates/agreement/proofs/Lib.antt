@@ -1,0 +1,19 @@
+-- Laws of the definitions in specs/, and the theorems. The layers above cite these, and not the definitions' text.
+-- Sets of senders, grades with their four properties, and the longest log with a grade; worked examples:
+pub mod SetLaws
+pub mod ReadingLaws
+pub mod LongestLaws
+pub mod Starred
+-- The answers of the code, read as document 01's:
+pub mod AnswerLaws
+-- Filing, as one rule of what is kept of a sender:
+pub mod KeptLaws
+-- What the proofs of functions cite. Filing:
+pub mod FilingLaws
+pub mod FileCases
+pub mod ProposalLaws
+pub mod ChoiceLaws
+-- Reading a grade:
+pub mod CountLaws
+pub mod StepLaws
+pub mod ClimbLaws

@@ -1,0 +1,16 @@
+use Rattle.agreement.proofs.ClimbLaws.{with-snapshot, without-snapshot}
+use borrow.Author.Needs.{needs}
+use Rattle.agreement.proofs.grading.two.Statement.{statement}
+use Rattle.agreement.proofs.grading.two.Tie as tie
+
+grade-among-requires : tie.Need-grade-among-requires
+grade-among-requires c κs = search needs
+
+returns : tie.Need-returns
+returns c = search with-snapshot
+
+returns-2 : tie.Need-returns-2
+returns-2 c = search without-snapshot
+
+pub two-spec : {M : Type 1} → statement M
+two-spec = tie.close (tie.spec grade-among-requires returns returns-2)

@@ -1,0 +1,26 @@
+use Rattle.agreement.proofs.FilingLaws.{is-filed}
+use borrow.Author.Needs.{needs}
+use Rattle.agreement.proofs.room.is_filed.Statement.{statement}
+use Rattle.agreement.proofs.room.is_filed.Tie as tie
+
+mul-at : tie.Need-mul-at
+mul-at c = search needs
+
+add-at : tie.Need-add-at
+add-at c = search needs
+
+array-read-matches : tie.Need-array-read-matches
+array-read-matches c = search needs
+
+cast-matches : tie.Need-cast-matches
+cast-matches c = search needs
+
+matches-requires : tie.Need-matches-requires
+matches-requires c κs = search needs
+
+returns : tie.Need-returns
+returns c = search is-filed
+
+pub is-filed-spec : {M : Type 1} → statement M
+is-filed-spec =
+    tie.close (tie.spec mul-at add-at array-read-matches cast-matches matches-requires returns)

@@ -1,0 +1,56 @@
+// What filing a LOG and filing a PROPOSAL share: whether anything can be filed, whether it is filed already, and filing it.
+// Logs stand from `base` on, 64 places for each sender.
+ghost use mathlib.Core.Path.{_≡_};
+ghost use Rattle.message.specs.Logs.{sameLog, namesOf, countsOf};
+ghost use Rattle.message.specs.Message.{logIn};
+ghost use Rattle.message.specs.Numbers.{put};
+ghost use Rattle.agreement.specs.Limits.{placeOf};
+ghost use Rattle.agreement.specs.Record.{filedLog, lacksRoom};
+ghost use Rattle.agreement.specs.Filing.{unfit};
+ghost use Rattle.agreement.specs.Asks.{Fit};
+use super::MOST_BLOCKS;
+use super::MOST_SENDERS;
+use super::SPAN;
+
+// The lists have no room for a log of each sender.
+pub(crate) fn lacks_room(names: &[u64], counts: &[u16], base: u32) -> bool
+    ensures { λ r. ⌜ r ≡ lacksRoom (now (names .entry)) (now (counts .entry)) base ⌝ }
+{
+    let end = base as usize + SPAN;
+    (names.len() < end) | (counts.len() < end)
+}
+
+// Nothing can be filed: no place for the sender, no room, or no log in the bytes.
+pub(crate) fn unfit(names: &[u64], counts: &[u16], base: u32, bytes: &[u8], sender: u8) -> bool
+    ensures { λ r. ⌜ r ≡ unfit (now (names .entry)) (now (counts .entry)) base (now (bytes .entry)) sender ⌝ }
+{
+    (MOST_SENDERS <= sender as usize)
+        | (lacks_room(names, counts, base) | !message::store::holds_log(bytes))
+}
+
+// The log in the bytes is the one filed of this sender.
+pub(crate) fn is_filed(
+    names: &[u64],
+    counts: &[u16],
+    base: u32,
+    lengths: [u8; 32],
+    bytes: &[u8],
+    sender: u8,
+) -> bool
+    requires { ⌜ Fit (now names) (now counts) base (now bytes) sender ⌝ }
+    ensures { λ r. ⌜ r ≡ sameLog (logIn (now (bytes .entry))) (filedLog (now (names .entry)) (now (counts .entry)) base lengths sender) ⌝ }
+{
+    let i = sender as usize;
+    let at = base as usize + MOST_BLOCKS * i;
+    message::store::matches(bytes, names, counts, at, lengths[i] as usize)
+}
+
+// The log in the bytes, filed at this sender's place.
+pub(crate) fn store_log(names: &mut [u64], counts: &mut [u16], base: u32, bytes: &[u8], sender: u8)
+    requires { ⌜ Fit (now names) (now counts) base (now bytes) sender ⌝ }
+    ensures { λ _. ⌜ (now (names .exit) ≡ put (now (names .entry)) (placeOf base sender) (namesOf (logIn (now (bytes .entry)))))
+        × (now (counts .exit) ≡ put (now (counts .entry)) (placeOf base sender) (countsOf (logIn (now (bytes .entry))))) ⌝ }
+{
+    let at = base as usize + MOST_BLOCKS * (sender as usize);
+    message::store::file(names, counts, at, bytes);
+}
