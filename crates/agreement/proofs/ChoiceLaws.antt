@@ -5,7 +5,7 @@ use native.Mathlib.Omega.{arith}
 use mathlib.Core.List.{List}
 use mathlib.Core.Bool.{Bool, true, false, not, _&&_, false≢true}
 use mathlib.Core.Option.{Option, some, none, Option·some-ne-none, Option·some-injective, Option·none-ne-some}
-use mathlib.Core.Logic.{_⊎_, inl, inr, _↔_}
+use mathlib.Core.Logic.{inl, inr, _↔_}
 use mathlib.Core.Path.{_≡_, refl, sym, ap, subst, _∙_}
 use borrow.Author.Tests.{lt-ltb, le-ltb, ltb-true, ltb-false}
 use lib.Dec.{ltb}
@@ -15,8 +15,8 @@ use Rattle.message.specs.Store.{prefixAt}
 use Rattle.message.proofs.TestLaws.{either}
 use Rattle.agreement.specs.Limits.{mostSenders, placeOf}
 use Rattle.agreement.specs.Record.{lacksRoom}
-use Rattle.agreement.specs.Asks.{Contest}
-use Rattle.agreement.specs.Proposals.{fits, better, ifFits, bestOf, choiceOf, chosen, HasPlace, Chooses}
+use Rattle.agreement.specs.Steps.{Contest}
+use Rattle.agreement.specs.Proposals.{fits, NotBelow, Best, better, ifFits, bestOf, choiceOf, chosen, HasPlace, Chooses}
 use Rattle.agreement.specs.declared.Proposals.{Proposals}
 use Rattle.agreement.specs.declared.Choice.{Choice}
 use Rattle.agreement.specs.declared.Choice.the-variants.{Proposal, Lock}
@@ -87,16 +87,6 @@ module _ (names counts : List ℕ) (base : ℕ) (g : Proposals) (a k : ℕ) (r :
       rw (← e, t) (subst (λ (n : ℕ). Chooses (bestOf n (fits names counts base g a k) (λ (j : ℕ). getD (g .priorities) j 0)) best) same w)
 
 -- ---- the best of the senders below n
-
--- sender i is at least as good as j: of higher priority, or of the same and not of a higher number
-abbrev pub NotBelow : (ℕ → ℕ) → ℕ → ℕ → Type 0
-NotBelow q i j = (q j < q i) ⊎ ((q j ≡ q i) × (i ≤ j))
-
--- i passes the test, and no sender that passes it is better
-pub record Best (n : ℕ) (p : ℕ → Bool) (q : ℕ → ℕ) (i : ℕ) : Type 0 where
-  pub below : i < n
-  pub passes : p i ≡ true
-  pub top : (j : ℕ) → j < n → p j ≡ true → NotBelow q i j
 
 module _ (p : ℕ → Bool) (q : ℕ → ℕ) where
   -- below n + 1: below n, or n itself

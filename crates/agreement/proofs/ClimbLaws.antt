@@ -23,7 +23,7 @@ use Rattle.agreement.specs.Sets.{weigh, ones, count, member}
 use Rattle.agreement.specs.Reading.{Reading, maySupport, supports, Grade, longest}
 use Rattle.agreement.specs.Record.{isSender, lacksRoom, overlong, readingOf}
 use Rattle.agreement.specs.Grades.{gradeAmong, Gives}
-use Rattle.agreement.specs.Steps.{Readable, Counted, Climbing, Row, rowAt, sharing, Highest, Reached, Best}
+use Rattle.agreement.specs.Steps.{Readable, Counted, Climbing, SharedRow, rowAt, sharing, Highest, Reached, BestSoFar}
 use Rattle.agreement.specs.declared.Agreement.{Agreement}
 use Rattle.agreement.specs.declared.Grade as answer
 use Rattle.agreement.specs.declared.Grade.the-variants.{Longest, Nothing}
@@ -63,7 +63,7 @@ module _ (names counts : List ℕ) (base : ℕ) (g : Agreement) (among : List Bo
         ∙ shares (member (g .voters) j && member among j) l (sharedLength (R .log i) (R .log j)) h
         ∙ ap (λ (n : ℕ). ltb (l - 1) (pick (member (g .voters) j && member among j) n 0)) (sym s)
 
-    module _ (i : ℕ) (hi : i < mostSenders) (row : List ℕ) (r : Row (rowAt names counts base (g .lengths) (g .voters) among i) mostSenders row) where
+    module _ (i : ℕ) (hi : i < mostSenders) (row : List ℕ) (r : SharedRow (rowAt names counts base (g .lengths) (g .voters) among i) mostSenders row) where
       supporters-row : (l : ℕ) → 0 < l → l ≤ getD (g .lengths) i 0 → weigh mostSenders ones (supports R (at i l)) ≡ sharing row l
       supporters-row l h k =
           weigh-cong mostSenders ones (supports R (at i l)) (λ (j : ℕ). ltb (l - 1) (getD row j 0))
@@ -88,7 +88,7 @@ module _ (names counts : List ℕ) (base : ℕ) (g : Agreement) (among : List Bo
     pub reach-asks : ((member (g .voters) i && member among i) && ltb low (getD (g .lengths) i 0)) ≡ true → low < getD (g .lengths) i 0
     reach-asks t = ltb-true low (getD (g .lengths) i 0) (and-eq-true-iff (member (g .voters) i && member among i) (ltb low (getD (g .lengths) i 0)) .0 t .1)
 
-    pub reach-found : (row : List ℕ) (r : ℕ) → Row (rowAt names counts base (g .lengths) (g .voters) among i) mostSenders row
+    pub reach-found : (row : List ℕ) (r : ℕ) → SharedRow (rowAt names counts base (g .lengths) (g .voters) among i) mostSenders row
         → Highest row all low (getD (g .lengths) i 0) r → Reached names counts base g among i low r
     reach-found row r w h = record {
       least = h .least;
@@ -123,13 +123,13 @@ module _ (names counts : List ℕ) (base : ℕ) (g : Agreement) (among : List Bo
 
   -- ---- all senders
 
-  pub best-start : (all : ℕ) → Climbing names counts base g among all → Best names counts base g among 0 0 0
-  best-start all c = record {
+  pub climb-start : (all : ℕ) → Climbing names counts base g among all → BestSoFar names counts base g among 0 0 0
+  climb-start all c = record {
     grade = subst (λ (L : Log). Grade mostSenders ones R L) (sym (log-empty names counts (placeOf base 0) 0 (omega arith))) (c .empty);
     none = λ j h. absurd (omega arith);
   }
 
-  module _ (best who i found : ℕ) (b : Best names counts base g among best who i) (r : Reached names counts base g among i best found) where
+  module _ (best who i found : ℕ) (b : BestSoFar names counts base g among best who i) (r : Reached names counts base g among i best found) where
     -- what holds of those below i and of i holds of those below i + 1
     upto : (x : ℕ) → best ≤ x → found ≤ x → (j : ℕ) → j < i + 1 → maySupport R j ≡ true → (M : Log) → Prefix M (R .log j) → Grade mostSenders ones R M → length M ≤ x
     upto x hb hf j h may M p q = elim (decLe i j) [
@@ -140,13 +140,13 @@ module _ (names counts : List ℕ) (base : ℕ) (g : Agreement) (among : List Bo
       | no l ↦ let a = b .none j (omega arith) may M p q in omega arith
     ]
 
-    pub best-same : found ≤ best → Best names counts base g among best who (i + 1)
-    best-same h = record { grade = b .grade; none = upto best (omega arith) h }
+    pub climb-same : found ≤ best → BestSoFar names counts base g among best who (i + 1)
+    climb-same h = record { grade = b .grade; none = upto best (omega arith) h }
 
-    pub best-more : best < found → Best names counts base g among found i (i + 1)
-    best-more h = record { grade = r .reached h; none = upto found (omega arith) (omega arith) }
+    pub climb-more : best < found → BestSoFar names counts base g among found i (i + 1)
+    climb-more h = record { grade = r .reached h; none = upto found (omega arith) (omega arith) }
 
-  pub climbed : (best who i : ℕ) → Best names counts base g among best who i → mostSenders ≤ i → who < mostSenders → best ≤ mostBlocks
+  pub climbed : (best who i : ℕ) → BestSoFar names counts base g among best who i → mostSenders ≤ i → who < mostSenders → best ≤ mostBlocks
       → Gives (longest mostSenders ones R) names counts base (Longest who best)
   climbed best who i b h w k = record {
     log = sym (longest-by-length mostSenders ones R (record-heard mostSenders names counts base g among) (at who best) (b .grade) (λ M q.

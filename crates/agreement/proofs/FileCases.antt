@@ -9,7 +9,7 @@ use Rattle.message.specs.Message.{countIn, logIn}
 use Rattle.agreement.specs.Limits.{placeOf}
 use Rattle.agreement.specs.Record.{isVoter, isEquivocator, filedLog, withFirst, withSecond}
 use Rattle.agreement.specs.Filing.{unfit, fileOf, Files}
-use Rattle.agreement.specs.Asks.{Fit}
+use Rattle.agreement.specs.Filing.{Fit}
 use Rattle.agreement.specs.declared.Agreement.{Agreement}
 use Rattle.agreement.specs.declared.Answer.the-variants.{First, Second, Known}
 use Rattle.agreement.proofs.FilingLaws.{fit-not-unfit}

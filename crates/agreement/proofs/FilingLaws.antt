@@ -21,7 +21,7 @@ use Rattle.message.proofs.Inside.{matches-inside, stored-inside}
 use Rattle.agreement.specs.Limits.{mostSenders, span, placeOf}
 use Rattle.agreement.specs.Record.{filedLog, lacksRoom}
 use Rattle.agreement.specs.Filing.{unfit}
-use Rattle.agreement.specs.Asks.{Fit}
+use Rattle.agreement.specs.Filing.{Fit}
 
 -- the code's test, from what it found
 pub unfit-is : (names counts : List ℕ) (base : ℕ) (s : List ℕ) (i : ℕ) (l h : Bool) → l ≡ lacksRoom names counts base → h ≡ holdsLog s

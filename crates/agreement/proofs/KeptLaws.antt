@@ -3,13 +3,14 @@
 use Prim.Native.Nat.{ℕ, _≤_}
 use native.Mathlib.Decide.{decLe}
 use native.Mathlib.Omega.{arith}
-use mathlib.Core.Bool.{Bool, true, false, _&&_}
+use mathlib.Core.Bool.{Bool, true, false, _&&_, _||_, false≢true}
 use mathlib.Core.List.{List}
 use mathlib.Core.Path.{_≡_, refl, sym, ap, _∙_}
 use lib.Dec.{eqb}
-use lib.ListN.{length, getD}
+use lib.ListN.{getD}
 use lib.Seq.{getD-set-same, getD-set-other}
 use Rattle.message.specs.Limits.{mostBlocks}
+use Rattle.message.specs.Choice.{pick}
 use Rattle.message.specs.Numbers.{put}
 use Rattle.message.specs.Logs.{sameLog, namesOf, countsOf}
 use Rattle.message.specs.Message.{countIn, logIn}
@@ -17,13 +18,13 @@ use Rattle.message.specs.Store.{logAt}
 use Rattle.message.proofs.TestLaws.{either}
 use Rattle.message.proofs.Acceptance.{length-blocks}
 use Rattle.message.proofs.ListedLaws.{log-stored, log-before, log-past}
-use Rattle.agreement.specs.Limits.{mostSenders, placeOf}
+use Rattle.agreement.specs.Limits.{placeOf}
 use Rattle.agreement.specs.Sets.{member}
-use Rattle.agreement.specs.Record.{isVoter, isEquivocator, filedLog}
+use Rattle.agreement.specs.Record.{isVoter, isEquivocator, isSender, filedLog}
 use Rattle.agreement.specs.Filing.{unfit, fileOf}
 use Rattle.agreement.specs.Proposals.{fileProposalOf}
-use Rattle.agreement.specs.Kept.{wordOn, keep, keptLog, Proposed, sameProposal, keptProposal}
-use Rattle.agreement.specs.Asks.{Fit}
+use Rattle.agreement.specs.Kept.{nothing, only, differing, Sized, SizedProposals, SameRest, heardOf, singleOf, wordOn, keep, keptLog, Proposed, sameProposal, keptProposal}
+use Rattle.agreement.specs.Filing.{Fit}
 use Rattle.agreement.specs.declared.Agreement.{Agreement}
 use Rattle.agreement.specs.declared.Proposals.{Proposals}
 use Rattle.agreement.proofs.FilingLaws.{fit-not-unfit, few-blocks}
@@ -56,12 +57,6 @@ module _ (names counts : List ℕ) (base : ℕ) (s : List ℕ) (i : ℕ) (f : Fi
         | yes l ↦ log-past names counts (placeOf base i) (logIn s) (placeOf base j) k (omega arith)
         | no l ↦ log-before names counts (placeOf base i) (logIn s) (placeOf base j) k (omega arith)
       ]
-
--- what a record keeps of each sender: numbers and truth values for 32
-pub record Sized (g : Agreement) : Type 0 where
-  pub lengths : length (g .lengths) ≡ mostSenders
-  pub voters : length (g .voters) ≡ mostSenders
-  pub equivocators : length (g .equivocators) ≡ mostSenders
 
 module _ (g : Agreement) (names counts : List ℕ) (base : ℕ) (s : List ℕ) (i : ℕ) (f : Fit names counts base s i) where
   cases3 : (A : Type 0) → (isEquivocator g i ≡ true → A)
@@ -120,13 +115,47 @@ module _ (g : Agreement) (names counts : List ℕ) (base : ℕ) (s : List ℕ) (
         filed-apart names counts base s i f j (getD (g .lengths) j 0) d h,
       ) refl)
 
--- ---- the same of proposals
+-- filing changes nothing else of the record, whatever was handed in
+pub file-rest : (g : Agreement) (names counts : List ℕ) (base : ℕ) (s : List ℕ) (i : ℕ) → SameRest g (fileOf g names counts base s i .agreement)
+unfolding fileOf
+file-rest g names counts base s i =
+    cases (SameRest g (fileOf g names counts base s i .agreement))
+    (unfit names counts base s i || isEquivocator g i) (isVoter g i) (sameLog (logIn s) (filedLog names counts base (g .lengths) i))
+    (λ q. rw q (record { view = refl; one = refl; two = refl; hasone = refl; hastwo = refl }))
+    (λ q v e. rw (q, v, e) (record { view = refl; one = refl; two = refl; hasone = refl; hastwo = refl }))
+    (λ q v e. rw (q, v, e) (record { view = refl; one = refl; two = refl; hasone = refl; hastwo = refl }))
+    (λ q v. rw (q, v) (record { view = refl; one = refl; two = refl; hasone = refl; hastwo = refl }))
 
-pub record SizedProposals (g : Proposals) : Type 0 where
-  pub lengths : length (g .lengths) ≡ mostSenders
-  pub priorities : length (g .priorities) ≡ mostSenders
-  pub filed : length (g .filed) ≡ mostSenders
-  pub aside : length (g .aside) ≡ mostSenders
+-- ---- what a grade reads, by what is kept
+
+module _ (names counts : List ℕ) (base : ℕ) (g : Agreement) (i : ℕ) where
+  pub kept-sender : isSender g i ≡ heardOf (keptLog names counts base g i)
+  unfolding keptLog
+  kept-sender = go (isVoter g i) (isEquivocator g i)
+    where
+      go : (v e : Bool) → (v || e) ≡ heardOf (pick e differing (pick v (only (filedLog names counts base (g .lengths) i)) nothing))
+      go true true = refl
+      go true false = refl
+      go false true = refl
+      go false false = refl
+
+  -- in no record within its limits is a sender in both V and E
+  module _ (apart : (isVoter g i && isEquivocator g i) ≡ false) where
+    pub kept-voter : isVoter g i ≡ singleOf (keptLog names counts base g i)
+    unfolding keptLog
+    kept-voter = go (isVoter g i) (isEquivocator g i) apart
+      where
+        go : (v e : Bool) → (v && e) ≡ false → v ≡ singleOf (pick e differing (pick v (only (filedLog names counts base (g .lengths) i)) nothing))
+        go true true a = a
+        go true false a = refl
+        go false true a = refl
+        go false false a = refl
+
+    pub kept-only : isVoter g i ≡ true → keptLog names counts base g i ≡ only (filedLog names counts base (g .lengths) i)
+    unfolding keptLog
+    kept-only v = either (isEquivocator g i) (λ e. absurd (false≢true (sym apart ∙ rw (v, e) refl))) (λ e. rw (e, v) refl)
+
+-- ---- the same of proposals
 
 module _ (g : Proposals) (names counts : List ℕ) (base : ℕ) (s : List ℕ) (i priority : ℕ) (f : Fit names counts base s i) where
   -- the proposal in the bytes

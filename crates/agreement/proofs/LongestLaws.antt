@@ -1,5 +1,5 @@
 -- Laws of the longest log with a grade: what `longest` computes is that log, or none where no log has the grade. Assumes nothing.
-use Prim.Native.Nat.{ℕ, zero, suc, _≤_, _<_}
+use Prim.Native.Nat.{ℕ, zero, suc, _+_, _≤_, _<_}
 use native.Mathlib.Decide.{decLe}
 use native.Mathlib.Nat.{le-refl}
 use native.Mathlib.Omega.{arith}
@@ -8,7 +8,7 @@ use mathlib.Core.Logic.{inl, inr, _↔_}
 use mathlib.Core.List.{List, [], _∷_, _++_, List·Memᴰ, List·Memᴰ·head, List·Memᴰ·tail, List·Memᴰ·cases-cons, List·Memᴰ·not-nil}
 use mathlib.Core.List.{Memᴰ·append-left, Memᴰ·append-right}
 use mathlib.Core.Option.{Option, some, none, Option·none-ne-some}
-use mathlib.Core.Bool.{Bool, true, false, _||_, false≢true}
+use mathlib.Core.Bool.{Bool, true, false, false≢true}
 use lib.Dec.{ltb}
 use lib.ListN.{length}
 use borrow.Author.Tests.{ltb-true, ltb-false}
@@ -17,22 +17,10 @@ use Rattle.message.specs.Logs.{Block, Log, Prefix, empty, more}
 use Rattle.message.proofs.TestLaws.{either}
 use Rattle.message.proofs.LogLaws.{prefix-antisym, prefix-shorter}
 use Rattle.agreement.specs.Sets.{Inside}
-use Rattle.agreement.specs.Reading.{Reading, maySupport, Grade, hasGrade, under, prefixes, candidates, longer, longestOf, longest}
-use Rattle.agreement.specs.Record.{isVoter, isEquivocator, readingOf}
+use Rattle.agreement.specs.Reading.{Reading, maySupport, Grade, hasGrade, LongestLog, Is, under, prefixes, candidates, longer, longestOf, longest}
+use Rattle.agreement.specs.Record.{readingOf}
 use Rattle.agreement.specs.declared.Agreement.{Agreement}
-use Rattle.agreement.proofs.ReadingLaws.{may-iff, grade-iff, grade-prefix, grade-supporter, Alike, hasGrade-cong, uniqueness}
-
--- ---- what the longest log is
-
--- L has the grade, and every log that has it is a prefix of L
-pub record LongestLog (n : ℕ) (w : ℕ → ℕ) (R : Reading) (L : Log) : Type 0 where
-  pub grade : Grade n w R L
-  pub longest : (M : Log) → Grade n w R M → Prefix M L
-
--- the answer is right: some log is the longest; none says that no log has the grade
-abbrev pub Is : ℕ → (ℕ → ℕ) → Reading → Option Log → Type 0
-Is n w R none = (M : Log) → Grade n w R M → ⊥
-Is n w R (some L) = LongestLog n w R L
+use Rattle.agreement.proofs.ReadingLaws.{may-iff, grade-iff, grade-prefix, grade-supporter, Alike, hasGrade-cong, Beyond, hasGrade-cut, uniqueness}
 
 -- there is one right answer
 pub longest-only : (n : ℕ) (w : ℕ → ℕ) (R : Reading) (o p : Option Log) → Is n w R o → Is n w R p → o ≡ p
@@ -197,11 +185,26 @@ longest-cong n w {R} {T} a =
     let q = candidates-cong n R T a in
     λ i. longestOf (p i) (q i)
 
--- ---- in every record, everyone who may support is heard: it is in V, and so in S
+-- ---- counting more senders than may be heard changes nothing
 
-or-left : (a b : Bool) → a ≡ true → (a || b) ≡ true
-or-left a b e = rw e
+candidates-cut : (n d : ℕ) (R : Reading) → Beyond n d R → candidates (n + d) R ≡ candidates n R
+unfolding candidates
+candidates-cut n zero R b = let s : n + 0 ≡ n = omega arith in ap (λ (k : ℕ). candidates k R) s
+candidates-cut n (suc d) R b =
+    let s : n + suc d ≡ suc (n + d) = omega arith in
+    let e = b .single (n + d) (omega arith) (omega arith) in
+    let r = candidates-cut n d R (record { heard = λ i h l. b .heard i h (omega arith); single = λ i h l. b .single i h (omega arith) }) in
+    ap (λ (k : ℕ). candidates k R) s ∙ (λ i. pick (e i) (prefixes (R .log (n + d))) [] ++ r i)
+
+pub longest-cut : (n d : ℕ) (w : ℕ → ℕ) (R : Reading) → Beyond n d R → longest (n + d) w R ≡ longest n w R
+unfolding longest
+longest-cut n d w R b =
+    let p : hasGrade (n + d) w R ≡ hasGrade n w R = fun-ext (λ L. hasGrade-cut n d w R b L) in
+    let q = candidates-cut n d R b in
+    λ i. longestOf (p i) (q i)
+
+-- ---- in every record, everyone who may support is heard: it is in V, and so in S
 
 pub record-heard : (n : ℕ) (names counts : List ℕ) (base : ℕ) (g : Agreement) (among : List Bool)
     → Inside n (maySupport (readingOf names counts base g among)) (readingOf names counts base g among .heard)
-record-heard n names counts base g among i l e = or-left (isVoter g i) (isEquivocator g i) (may-iff (readingOf names counts base g among) i .0 e .0)
+record-heard n names counts base g among i l e = rw (may-iff (readingOf names counts base g among) i .0 e .0) refl

@@ -14,7 +14,7 @@ use Rattle.agreement.specs.Limits.{placeOf}
 use Rattle.agreement.specs.Sets.{member}
 use Rattle.agreement.specs.Record.{filedLog}
 use Rattle.agreement.specs.Filing.{known, unfit}
-use Rattle.agreement.specs.Asks.{Fit}
+use Rattle.agreement.specs.Filing.{Fit}
 use Rattle.agreement.specs.Proposals.{withProposal, withAside, ProposalFiling, fileProposalOf, FilesProposal}
 use Rattle.agreement.specs.declared.Proposals.{Proposals}
 use Rattle.agreement.specs.declared.Answer.the-variants.{First, Second, Known}

@@ -1,8 +1,8 @@
--- Laws of grades over any senders and weights: the tests tied to what they mean, and the four properties of grades. Assumes nothing.
-use Prim.Native.Nat.{ℕ, _*_, _<_}
+-- Laws of grades over any senders and weights: the tests tied to what they mean, and the properties of grades. Assumes nothing.
+use Prim.Native.Nat.{ℕ, _+_, _*_, _≤_, _<_}
 use native.Mathlib.Decide.{decLe}
 use native.Mathlib.Omega.{arith}
-use mathlib.Core.Path.{_≡_, refl, sym, ap, _∙_}
+use mathlib.Core.Path.{_≡_, refl, ap}
 use mathlib.Core.Logic.{_⊎_, _↔_, Iff·rfl, Iff·trans, Iff·and}
 use mathlib.Core.Bool.{Bool, true, false, _&&_, and-eq-true-iff}
 use lib.Dec.{ltb}
@@ -11,7 +11,7 @@ use Rattle.message.specs.Logs.{Log, Prefix, Compatible, Conflict, isPrefix}
 use Rattle.message.proofs.LogLaws.{prefix-trans, compatible-under, isPrefix-iff, no-conflict-iff}
 use Rattle.agreement.specs.Sets.{weigh, Inside}
 use Rattle.agreement.specs.Reading.{Reading, maySupport, supports, Grade, hasGrade}
-use Rattle.agreement.proofs.SetLaws.{Meet, weigh-mono, weigh-cover, weigh-meet, weigh-some, weigh-cong}
+use Rattle.agreement.proofs.SetLaws.{Meet, weigh-mono, weigh-cover, weigh-meet, weigh-disjoint, weigh-some, weigh-cong, weigh-cut}
 
 -- ---- the tests
 
@@ -59,14 +59,6 @@ pub record Alike (n : ℕ) (R T : Reading) : Type 0 where
   pub snap : (i : ℕ) → i < n → R .snap i ≡ T .snap i
   pub log : (i : ℕ) → i < n → R .single i ≡ true → R .log i ≡ T .log i
 
-pub alike-swap : {n : ℕ} {R T : Reading} → Alike n R T → Alike n T R
-alike-swap a = record {
-  heard = λ i l. sym (a .heard i l);
-  single = λ i l. sym (a .single i l);
-  snap = λ i l. sym (a .snap i l);
-  log = λ i l e. sym (a .log i l (a .single i l ∙ e));
-}
-
 pub may-cong : {n : ℕ} {R T : Reading} → Alike n R T → (i : ℕ) → i < n → maySupport R i ≡ maySupport T i
 unfolding maySupport
 may-cong a i l = let p = a .single i l in let q = a .snap i l in λ j. p j && q j
@@ -90,13 +82,24 @@ hasGrade-cong n w {R} {T} a L =
     let q = weigh-cong n w (supports R L) (supports T L) (supports-cong a L) in
     λ i. ltb (p i) (2 * q i)
 
-pub grade-cong : (n : ℕ) (w : ℕ → ℕ) {R T : Reading} → Alike n R T → (L : Log) → Grade n w R L ↔ Grade n w T L
-grade-cong n w {R} {T} a L = (
-  λ g. grade-iff n w T L .0 (sym (hasGrade-cong n w a L) ∙ grade-iff n w R L .1 g),
-  λ g. grade-iff n w R L .0 (hasGrade-cong n w a L ∙ grade-iff n w T L .1 g),
-)
+-- ---- senders from n on add nothing where none of them is heard or in V
 
--- ---- the four properties of grades
+pub record Beyond (n d : ℕ) (R : Reading) : Type 0 where
+  pub heard : (i : ℕ) → n ≤ i → i < n + d → R .heard i ≡ false
+  pub single : (i : ℕ) → n ≤ i → i < n + d → R .single i ≡ false
+
+pub supports-beyond : (n d : ℕ) (R : Reading) → Beyond n d R → (L : Log) (i : ℕ) → n ≤ i → i < n + d → supports R L i ≡ false
+unfolding supports maySupport
+supports-beyond n d R b L i h l = rw (b .single i h l)
+
+pub hasGrade-cut : (n d : ℕ) (w : ℕ → ℕ) (R : Reading) → Beyond n d R → (L : Log) → hasGrade (n + d) w R L ≡ hasGrade n w R L
+unfolding hasGrade
+hasGrade-cut n d w R b L =
+    let p = weigh-cut n d w (R .heard) (b .heard) in
+    let q = weigh-cut n d w (supports R L) (supports-beyond n d R b L) in
+    λ i. ltb (p i) (2 * q i)
+
+-- ---- the properties of grades: the paper's five
 
 module _ (n : ℕ) (w : ℕ → ℕ) where
   -- Validity: if every member may support and its log extends L, and breakers, lighter together than the members, are all that is heard
@@ -148,6 +151,19 @@ module _ (n : ℕ) (w : ℕ → ℕ) where
           let a = supports-iff R L (m .sender) .0 (m .left) in
           let b = supports-iff T M (m .sender) .0 (m .right) in
           compatible-under (rw (same (m .sender) (m .below) (a .0) (b .0)) at (a .1)) (b .1)
+
+  -- Integrity: if every member is heard and none supports L, and breakers, lighter together than the members, are all that is heard
+  -- besides, then L lacks the grade.
+  pub integrity : (R : Reading) (member breaker : ℕ → Bool) (L : Log) → Inside n (maySupport R) (R .heard) → Inside n member (R .heard)
+      → ((i : ℕ) → i < n → member i ≡ true → supports R L i ≡ true → ⊥)
+      → ((i : ℕ) → i < n → R .heard i ≡ true → (member i ≡ true) ⊎ (breaker i ≡ true))
+      → weigh n w breaker < weigh n w member → Grade n w R L → ⊥
+  unfolding Grade
+  integrity R member breaker L may heard none cover major g =
+      omega (arith, weigh-disjoint n w (supports R L) member (R .heard) inside heard (λ i l a b. none i l b a), weigh-cover n w member breaker (R .heard) cover)
+    where
+      inside : Inside n (supports R L) (R .heard)
+      inside i l e = may i l (supports-iff R L i .0 e .0)
 
   -- Uniqueness: two logs with the grade in one reading do not conflict, if all who may support are heard.
   pub uniqueness : (R : Reading) (L M : Log) → Inside n (maySupport R) (R .heard) → Grade n w R L → Grade n w R M → Compatible L M

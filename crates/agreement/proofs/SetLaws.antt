@@ -6,7 +6,7 @@ use native.Mathlib.Omega.{arith}
 use mathlib.Core.Path.{_≡_, refl, ap, _∙_}
 use mathlib.Core.Logic.{_⊎_, inl, inr}
 use mathlib.Core.Bool.{Bool, true, false, false≢true}
-use Rattle.agreement.specs.Sets.{share, weigh, ones, count, Inside}
+use Rattle.agreement.specs.Sets.{share, weigh, ones, Inside}
 
 -- a sender below n that is in both sets
 pub record Meet (n : ℕ) (p q : ℕ → Bool) : Type 0 where
@@ -40,10 +40,6 @@ share-apart false false c k f g = inr (omega arith)
 share-none : (a : Bool) (m : ℕ) → share a 1 + m ≡ 0 → a ≡ false
 share-none true m e = absurd (omega arith)
 share-none false m e = refl
-
-share-le : (a : Bool) → share a 1 ≤ 1
-share-le true = omega arith
-share-le false = omega arith
 
 -- ---- sets against each other
 
@@ -97,13 +93,14 @@ weigh-cong (suc n) w p q h =
     let e = h n (le-refl (suc n)) in let r = weigh-cong n w p q (λ i l. h i (omega arith)) in λ i. share (e i) (w n) + r i
 
 -- senders from n on add nothing where none of them is in the set
-pub weigh-cut : (n d : ℕ) (w : ℕ → ℕ) (p : ℕ → Bool) → ((i : ℕ) → n ≤ i → p i ≡ false) → weigh (n + d) w p ≡ weigh n w p
+pub weigh-cut : (n d : ℕ) (w : ℕ → ℕ) (p : ℕ → Bool) → ((i : ℕ) → n ≤ i → i < n + d → p i ≡ false) → weigh (n + d) w p ≡ weigh n w p
 unfolding weigh
 weigh-cut n zero w p h = let s : n + 0 ≡ n = omega arith in ap (λ (k : ℕ). weigh k w p) s
 weigh-cut n (suc d) w p h =
     let s : n + suc d ≡ suc (n + d) = omega arith in
-    let e = h (n + d) (omega arith) in
-    ap (λ (k : ℕ). weigh k w p) s ∙ (λ i. share (e i) (w (n + d)) + weigh (n + d) w p) ∙ omega (arith, weigh-cut n d w p h)
+    let e = h (n + d) (omega arith) (omega arith) in
+    let r = weigh-cut n d w p (λ i a b. h i a (omega arith)) in
+    ap (λ (k : ℕ). weigh k w p) s ∙ (λ i. share (e i) (w (n + d)) + weigh (n + d) w p) ∙ omega arith
 
 -- where the count is 0, no sender is in the set
 pub weigh-none : (n : ℕ) (p : ℕ → Bool) (i : ℕ) → weigh n ones p ≡ 0 → i < n → p i ≡ false
@@ -113,9 +110,3 @@ weigh-none (suc n) p i e l = elim (decLe n i) [
   | yes k ↦ let q : i ≡ n = omega arith in ap p q ∙ share-none (p n) (weigh n ones p) e
   | no k ↦ weigh-none n p i (omega arith) (omega arith)
 ]
-
--- no set has more senders than there are
-pub count-le : (n : ℕ) (p : ℕ → Bool) → count n p ≤ n
-unfolding weigh
-count-le zero p = omega arith
-count-le (suc n) p = omega (arith, share-le (p n), count-le n p)

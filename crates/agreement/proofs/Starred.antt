@@ -78,15 +78,15 @@ votedLog lock t none = logAt (t .names) (t .counts) span (length lock)
 votedLog lock t (some i) = filedLog (t .names) (t .counts) 0 (t .proposals .lengths) i
 
 -- What is found.
-pub data Answer : Type 0 where
-  grade : Option Log → Answer
-  word : Word → Answer
-  vote : Option ℕ → Log → Answer
+pub data Finding : Type 0 where
+  grade : Option Log → Finding
+  word : Word → Finding
+  vote : Option ℕ → Log → Finding
 
-abbrev voteIn : Log → ProposalFiling → Option ℕ → Answer
+abbrev voteIn : Log → ProposalFiling → Option ℕ → Finding
 voteIn lock t o = vote o (votedLog lock t o)
 
-abbrev pub worked : Row → Answer
+abbrev pub worked : Row → Finding
 worked (grade0 ss o) = let t = after ss in grade (gradeZero (t .names) (t .counts) 0 (t .agreement))
 worked (grade1 ss o) = let t = after ss in grade (gradeOne (t .names) (t .counts) 0 (t .agreement))
 worked (grade2 ss o) = let t = after ss in grade (gradeTwo (t .names) (t .counts) 0 (t .agreement))
@@ -94,7 +94,7 @@ worked (answers ss w) = word (after ss .word)
 worked (answersProposal os w) = word (afterProposals [] os .word)
 worked (votes lock os i L) = let t = afterProposals lock os in voteIn lock t (choiceOf (t .names) (t .counts) 0 (t .proposals) span (length lock))
 
-abbrev pub stated : Row → Answer
+abbrev pub stated : Row → Finding
 stated (grade0 ss o) = grade o
 stated (grade1 ss o) = grade o
 stated (grade2 ss o) = grade o
@@ -156,11 +156,18 @@ rows =
     ∷ votes l5 (proposal 0 l56 9 ∷ proposal 1 l57 9 ∷ proposal 2 (blocks (8 ∷ [])) 20 ∷ proposal 0 l5 9 ∷ []) (some 1) l57
     -- From here on, rows that document 01 does not have. The same name with another count is another block.
     ∷ grade0 (log 0 l5 ∷ log 1 l5′ ∷ []) (some [])
+    -- a prefix that no sender sent whole
+    ∷ grade0 (log 0 l56 ∷ log 1 l57 ∷ []) (some l5)
+    -- the empty log is a log: its sender is heard, and supports it
+    ∷ grade0 (log 0 [] ∷ []) (some [])
+    -- grade 0 looks at no snapshot
+    ∷ grade0 (log 0 l5 ∷ two ∷ log 1 l5 ∷ []) (some l5)
     -- the last sender counts like any other
     ∷ grade0 (log 30 l7 ∷ log 31 l5 ∷ []) (some [])
     ∷ grade0 (log 31 l5 ∷ []) (some l5)
     -- a log of 64 blocks leaves its neighbour's as it is
-    ∷ grade0 (log 1 l5 ∷ log 2 l5 ∷ log 0 (replicate 64 (record { name = 7; count = 1 })) ∷ []) (some l5)
+    ∷ grade0 (log 1 l5 ∷ log 2 l5 ∷ log 0 (replicate mostBlocks (record { name = 7; count = 1 })) ∷ []) (some l5)
+    ∷ grade0 (log 0 (replicate mostBlocks (record { name = 7; count = 1 })) ∷ []) (some (replicate mostBlocks (record { name = 7; count = 1 })))
     -- Which snapshot serves which grade. Snapshot one only: no grade 1, ..
     ∷ grade1 (log 0 l5 ∷ log 1 l5 ∷ one ∷ []) none
     ∷ grade2 (log 0 l5 ∷ log 1 l5 ∷ one ∷ []) (some l5)
@@ -179,12 +186,19 @@ rows =
     -- Equivocation after a snapshot that has the sender in it: it no longer supports, and is heard.
     ∷ grade1 (log 0 l5 ∷ log 1 l5 ∷ two ∷ log 1 l7 ∷ []) none
     ∷ grade2 (log 0 l5 ∷ log 1 l5 ∷ one ∷ log 1 l7 ∷ []) none
+    -- an equivocator from before the snapshot is heard as well
+    ∷ grade1 (log 0 l5 ∷ both 1 ++ (two ∷ [])) none
+    ∷ grade2 (log 0 l5 ∷ both 1 ++ (one ∷ [])) none
     -- The answers to a LOG.
     ∷ answers (log 0 l5 ∷ []) first
     ∷ answers (log 0 l5 ∷ log 1 l5 ∷ []) first
     ∷ answers (log 0 [] ∷ []) first
     -- the same again; another log, be it longer, shorter, or of another count
     ∷ answers (log 0 l5 ∷ log 0 l5 ∷ []) known
+    ∷ answers (log 0 [] ∷ log 0 [] ∷ []) known
+    ∷ answers (log 0 [] ∷ log 0 l5 ∷ []) second
+    -- .. and the same again makes no equivocator
+    ∷ grade0 (log 0 l5 ∷ log 0 l5 ∷ []) (some l5)
     ∷ answers (log 0 l5 ∷ log 0 l7 ∷ []) second
     ∷ answers (log 0 l5 ∷ log 0 l56 ∷ []) second
     ∷ answers (log 0 l5 ∷ log 0 [] ∷ []) second
@@ -204,6 +218,11 @@ rows =
     ∷ votes l5 (proposal 0 (blocks (5 ∷ 6 ∷ 7 ∷ [])) 3 ∷ proposal 1 l57 4 ∷ []) (some 1) l57
     -- a tie goes to the lower number, whoever came first
     ∷ votes l5 (proposal 1 l57 9 ∷ proposal 0 l56 9 ∷ []) (some 0) l56
+    ∷ votes l5 (proposal 0 l5 9 ∷ proposal 1 l56 9 ∷ []) (some 0) l5
+    -- the last sender may be voted for
+    ∷ votes l5 (proposal 31 l56 9 ∷ []) (some 31) l56
+    -- the same proposal again sets nothing aside
+    ∷ votes l5 (proposal 0 l56 9 ∷ proposal 0 l56 9 ∷ []) (some 0) l56
     -- a priority of 0 is one too, and the lock itself may be proposed
     ∷ votes l5 (proposal 3 l5 0 ∷ []) (some 3) l5
     -- the lock, where there is no proposal, or one that does not extend it: another name, too short, another count
@@ -213,6 +232,9 @@ rows =
     ∷ votes l5 (proposal 0 l5′ 9 ∷ []) none l5
     -- every proposal extends the empty lock
     ∷ votes [] (proposal 0 l56 9 ∷ proposal 2 (blocks (8 ∷ [])) 20 ∷ []) (some 2) (blocks (8 ∷ []))
+    -- so does an empty one, and none at all is voted for where none was made
+    ∷ votes [] (proposal 0 [] 9 ∷ []) (some 0) []
+    ∷ votes [] [] none []
     -- set aside for another priority, and for good
     ∷ votes l5 (proposal 0 l56 9 ∷ proposal 1 l57 8 ∷ proposal 0 l56 10 ∷ []) (some 1) l57
     ∷ votes l5 (proposal 0 l56 9 ∷ proposal 0 l57 9 ∷ proposal 0 l56 9 ∷ []) none l5

@@ -11,14 +11,14 @@ use lib.ListN.{length, getD, set}
 use lib.Seq.{getD-set-same, getD-set-other}
 use Rattle.agreement.specs.Limits.{mostSenders, placeOf}
 use Rattle.agreement.specs.Sets.{count}
-use Rattle.agreement.specs.Steps.{Row, rowFrom, rowAt, sharing, Above, Highest}
+use Rattle.agreement.specs.Steps.{SharedRow, rowFrom, rowAt, sharing, Above, Highest}
 
 -- ---- the row
 
-pub row-none : (f : ℕ → ℕ) (row : List ℕ) → Row f 0 row
+pub row-none : (f : ℕ → ℕ) (row : List ℕ) → SharedRow f 0 row
 row-none f row = record { at = λ j h. absurd (omega arith) }
 
-pub row-next : (f : ℕ → ℕ) (row : List ℕ) (x j : ℕ) → Row f j row → length row ≡ mostSenders → j < mostSenders → x ≡ f j → Row f (j + 1) (set row j x)
+pub row-next : (f : ℕ → ℕ) (row : List ℕ) (x j : ℕ) → SharedRow f j row → length row ≡ mostSenders → j < mostSenders → x ≡ f j → SharedRow f (j + 1) (set row j x)
 row-next f row x j h s l e = record {
   at = λ k q. elim (decLe j k) [
     | yes a ↦ let t : k ≡ j = omega arith in ap (λ (i : ℕ). getD (set row j x) i 0) t ∙ getD-set-same row j x 0 (omega arith) ∙ e ∙ ap f (sym t)
@@ -27,8 +27,8 @@ row-next f row x j h s l e = record {
 }
 
 pub row-done : (names counts : List ℕ) (base : ℕ) (lengths : List ℕ) (voters among : List Bool) (a x i j : ℕ) (row : List ℕ)
-    → Row (rowFrom names counts base lengths voters among a x) j row → mostSenders ≤ j → a ≡ placeOf base i → x ≡ getD lengths i 0
-    → Row (rowAt names counts base lengths voters among i) mostSenders row
+    → SharedRow (rowFrom names counts base lengths voters among a x) j row → mostSenders ≤ j → a ≡ placeOf base i → x ≡ getD lengths i 0
+    → SharedRow (rowAt names counts base lengths voters among i) mostSenders row
 row-done names counts base lengths voters among a x i j row h g e f = record { at = λ k q. h .at k (omega arith) ∙ rw (e, f) refl }
 
 -- ---- the greatest length

@@ -1,15 +1,16 @@
 -- Filing a LOG (document 01, "Receive"). Assumes nothing.
-use Prim.Native.Nat.{ℕ}
-use mathlib.Core.Bool.{Bool, not, _||_}
+use Prim.Native.Nat.{ℕ, _+_, _<_, _≤_}
+use mathlib.Core.Bool.{Bool, true, not, _||_}
 use mathlib.Core.List.{List}
 use mathlib.Core.Path.{_≡_}
 use lib.Dec.{leb}
+use lib.ListN.{length}
 use Rattle.message.specs.Choice.{pick}
 use Rattle.message.specs.Numbers.{put}
 use Rattle.message.specs.Logs.{sameLog, namesOf, countsOf}
 use Rattle.message.specs.Message.{countIn, logIn}
 use Rattle.message.specs.Store.{holdsLog}
-use Rattle.agreement.specs.Limits.{mostSenders, placeOf}
+use Rattle.agreement.specs.Limits.{mostSenders, span, placeOf}
 use Rattle.agreement.specs.Record.{isVoter, isEquivocator, filedLog, lacksRoom, withFirst, withSecond}
 use Rattle.agreement.specs.declared.Agreement.{Agreement}
 use Rattle.agreement.specs.declared.Filed.{Filed}
@@ -27,9 +28,16 @@ wordOf Second = second
 wordOf Known = known
 
 -- Nothing can be filed: the sender has no place in the record, the lists have no room, or the bytes hold no log. The bench refuses such messages
--- and lists before it files (4, 8, 2); that of view and window is its business too. So this only says that nothing happens then.
+-- and lists before it files (2, 4, 8), and judges view and window. Here nothing happens then.
 abbrev pub unfit : List ℕ → List ℕ → ℕ → List ℕ → ℕ → Bool
 unfit names counts base s i = leb mostSenders i || (lacksRoom names counts base || not (holdsLog s))
+
+-- Something can be filed: the same as facts (FilingLaws: fit, fit-not-unfit).
+pub record Fit (names counts : List ℕ) (base : ℕ) (s : List ℕ) (i : ℕ) : Type 0 where
+  pub few : i < mostSenders
+  pub inNames : base + span ≤ length names
+  pub inCounts : base + span ≤ length counts
+  pub holds : holdsLog s ≡ true
 
 -- What filing gives: the word, the agreement, and both lists.
 pub record Filing : Type 0 where

@@ -39,7 +39,7 @@ abbrev pub logOf : List ℕ → List ℕ → ℕ → Grade → Option Log
 logOf names counts base Nothing = none
 logOf names counts base (Longest i k) = some (logAt names counts (placeOf base i) k)
 
--- where that log stands: at a sender's place, 64 blocks at the most; which of the senders that have it is not fixed
+-- where that log stands: at a sender's place, 64 blocks at the most; whose place is not fixed by the rules
 abbrev pub Placed : Grade → Type 0
 Placed Nothing = Unit {0}
 Placed (Longest i k) = (i < mostSenders) × (k ≤ mostBlocks)

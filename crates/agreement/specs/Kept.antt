@@ -1,12 +1,14 @@
 -- What is kept of one sender's messages of a kind in a view, and the answer to one more (document 01, "Receive"): one rule for LOGs and
 -- PROPOSALs, tied to the record by KeptLaws. Assumes nothing.
 use Prim.Native.Nat.{ℕ}
-use mathlib.Core.Bool.{Bool, _&&_}
+use mathlib.Core.Bool.{Bool, true, false, _&&_}
 use mathlib.Core.List.{List}
+use mathlib.Core.Path.{_≡_}
 use lib.Dec.{eqb}
-use lib.ListN.{getD}
+use lib.ListN.{length, getD}
 use Rattle.message.specs.Choice.{pick}
 use Rattle.message.specs.Logs.{Log, sameLog}
+use Rattle.agreement.specs.Limits.{mostSenders}
 use Rattle.agreement.specs.Sets.{member}
 use Rattle.agreement.specs.Record.{isVoter, isEquivocator, filedLog}
 use Rattle.agreement.specs.Filing.{Word, first, second, known}
@@ -31,6 +33,18 @@ keep same nothing x = only x
 keep same (only a) x = pick (same x a) (only a) differing
 keep same differing x = differing
 
+-- the sender is heard: of S
+abbrev pub heardOf : {A : Type 0} → Kept A → Bool
+heardOf nothing = false
+heardOf (only a) = true
+heardOf differing = true
+
+-- and of one message only: of V
+abbrev pub singleOf : {A : Type 0} → Kept A → Bool
+singleOf nothing = false
+singleOf (only a) = true
+singleOf differing = false
+
 -- ---- as a record keeps it
 
 -- of sender i's LOGs
@@ -50,3 +64,25 @@ unfoldable pub keptProposal : List ℕ → List ℕ → ℕ → Proposals → �
 keptProposal names counts base g i =
     pick (member (g .aside) i) differing
     (pick (member (g .filed) i) (only (record { log = filedLog names counts base (g .lengths) i; priority = getD (g .priorities) i 0 })) nothing)
+
+-- ---- a record's arrays have a place for each of 32 senders, as the code's types say
+
+pub record Sized (g : Agreement) : Type 0 where
+  pub lengths : length (g .lengths) ≡ mostSenders
+  pub voters : length (g .voters) ≡ mostSenders
+  pub equivocators : length (g .equivocators) ≡ mostSenders
+
+pub record SizedProposals (g : Proposals) : Type 0 where
+  pub lengths : length (g .lengths) ≡ mostSenders
+  pub priorities : length (g .priorities) ≡ mostSenders
+  pub filed : length (g .filed) ≡ mostSenders
+  pub aside : length (g .aside) ≡ mostSenders
+
+-- ---- all but what is kept of the senders is the same: the view and the snapshots
+
+pub record SameRest (g h : Agreement) : Type 0 where
+  pub view : h .view ≡ g .view
+  pub one : h .one ≡ g .one
+  pub two : h .two ≡ g .two
+  pub hasone : h .hasone ≡ g .hasone
+  pub hastwo : h .hastwo ≡ g .hastwo

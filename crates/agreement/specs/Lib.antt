@@ -10,5 +10,4 @@ pub mod Grades
 pub mod Proposals
 pub mod Kept
 -- What functions inside this crate ask and promise each other; no reader needs these:
-pub mod Asks
 pub mod Steps

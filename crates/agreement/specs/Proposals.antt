@@ -1,8 +1,9 @@
 -- The proposals of a view, and the vote (document 01, "Receive" and "Calendar of acts"). Assumes nothing.
-use Prim.Native.Nat.{ℕ, zero, suc, _<_}
+use Prim.Native.Nat.{ℕ, zero, suc, _≤_, _<_}
 use mathlib.Core.Bool.{Bool, true, false, not, _&&_, _||_}
 use mathlib.Core.List.{List}
 use mathlib.Core.Option.{Option, some, none}
+use mathlib.Core.Logic.{_⊎_}
 use mathlib.Core.Path.{_≡_}
 use lib.Dec.{eqb, ltb}
 use lib.ListN.{getD, set, replicate}
@@ -112,6 +113,20 @@ ifFits false priority o i = o
 unfoldable pub bestOf : ℕ → (ℕ → Bool) → (ℕ → ℕ) → Option ℕ
 bestOf zero p priority = none
 bestOf (suc n) p priority = ifFits (p n) priority (bestOf n p priority) n
+
+-- ---- what the best is, apart from how it is found (ChoiceLaws: best-is)
+
+-- sender i is at least as good as j: of higher priority, or of the same and not of a higher number
+abbrev pub NotBelow : (ℕ → ℕ) → ℕ → ℕ → Type 0
+NotBelow q i j = (q j < q i) ⊎ ((q j ≡ q i) × (i ≤ j))
+
+-- i passes the test, and no sender that passes it is better
+pub record Best (n : ℕ) (p : ℕ → Bool) (q : ℕ → ℕ) (i : ℕ) : Type 0 where
+  pub below : i < n
+  pub passes : p i ≡ true
+  pub top : (j : ℕ) → j < n → p j ≡ true → NotBelow q i j
+
+-- ---- the sender voted for
 
 -- The sender whose proposal is voted for, or none: then the vote is for the lock. Lists without room for the proposals hold none.
 unfoldable pub choiceOf : List ℕ → List ℕ → ℕ → Proposals → ℕ → ℕ → Option ℕ

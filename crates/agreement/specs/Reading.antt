@@ -7,7 +7,7 @@ use mathlib.Core.Option.{Option, some, none}
 use lib.Dec.{ltb}
 use lib.ListN.{length}
 use Rattle.message.specs.Choice.{pick}
-use Rattle.message.specs.Logs.{Block, Log, isPrefix}
+use Rattle.message.specs.Logs.{Block, Log, Prefix, isPrefix}
 use Rattle.agreement.specs.Sets.{weigh}
 
 -- What a bench reads in an agreement when it asks for a grade.
@@ -29,7 +29,7 @@ maySupport R i = R .single i && R .snap i
 unfoldable pub supports : Reading → Log → ℕ → Bool
 supports R L i = maySupport R i && isPrefix L (R .log i)
 
--- L has the grade: "2 × (supporters) > |S|", over the senders below n, each with its weight
+-- L has the grade (the proposition; the code's answer is an enum of that name): "2 × (supporters) > |S|", over the senders below n, each with its weight
 unfoldable pub Grade : ℕ → (ℕ → ℕ) → Reading → Log → Type 0
 Grade n w R L = weigh n w (R .heard) < 2 * weigh n w (supports R L)
 
@@ -39,11 +39,12 @@ hasGrade n w R L = ltb (weigh n w (R .heard)) (2 * weigh n w (supports R L))
 
 -- ---- the longest log with the grade
 
--- all prefixes of a log, the empty one and the log itself included
+-- b put before each of the logs
 unfoldable pub under : Block → List Log → List Log
 under b [] = []
 under b (L ∷ Ls) = (b ∷ L) ∷ under b Ls
 
+-- all prefixes of a log, the empty one and the log itself included
 unfoldable pub prefixes : Log → List Log
 unfolding under
 prefixes [] = [] ∷ []
@@ -60,11 +61,12 @@ unfoldable pub longer : Log → Option Log → Option Log
 longer L none = some L
 longer L (some M) = some (pick (ltb (length M) (length L)) L M)
 
--- the longest of the logs that pass the test, or none where none passes
+-- L counts only where it passes
 abbrev pub whenPasses : Bool → Log → Option Log → Option Log
 whenPasses true L o = longer L o
 whenPasses false L o = o
 
+-- the longest of the logs that pass the test, or none where none passes
 unfoldable pub longestOf : (Log → Bool) → List Log → Option Log
 unfolding longer
 longestOf p [] = none
@@ -74,3 +76,13 @@ longestOf p (L ∷ Ls) = whenPasses (p L) L (longestOf p Ls)
 unfoldable pub longest : ℕ → (ℕ → ℕ) → Reading → Option Log
 unfolding hasGrade candidates longestOf
 longest n w R = longestOf (hasGrade n w R) (candidates n R)
+
+-- What the longest log is, apart from how it is found: L has the grade, and every log that has it is a prefix of L.
+pub record LongestLog (n : ℕ) (w : ℕ → ℕ) (R : Reading) (L : Log) : Type 0 where
+  pub grade : Grade n w R L
+  pub longest : (M : Log) → Grade n w R M → Prefix M L
+
+-- an answer is right: some log is the longest; none says that no log has the grade
+abbrev pub Is : ℕ → (ℕ → ℕ) → Reading → Option Log → Type 0
+Is n w R none = (M : Log) → Grade n w R M → ⊥
+Is n w R (some L) = LongestLog n w R L

@@ -1,4 +1,4 @@
--- What the inner functions that read a grade ask and promise. Nothing outside this crate depends on these. Assumes nothing.
+-- What functions inside this crate ask and promise each other; nothing outside it depends on these. Assumes nothing.
 use Prim.Native.Nat.{ℕ, _+_, _-_, _*_, _≤_, _<_}
 use mathlib.Core.Bool.{Bool, true, _&&_}
 use mathlib.Core.List.{List, []}
@@ -14,7 +14,9 @@ use Rattle.agreement.specs.Limits.{mostSenders, span, placeOf}
 use Rattle.agreement.specs.Sets.{ones, count, member}
 use Rattle.agreement.specs.Reading.{maySupport, Grade}
 use Rattle.agreement.specs.Record.{isSender, readingOf}
+use Rattle.agreement.specs.Proposals.{HasPlace}
 use Rattle.agreement.specs.declared.Agreement.{Agreement}
+use Rattle.agreement.specs.declared.Choice.{Choice}
 
 -- The lists have room from `base` on, and no length is over 64.
 pub record Readable (names counts : List ℕ) (base : ℕ) (lengths : List ℕ) : Type 0 where
@@ -32,7 +34,7 @@ abbrev pub rowAt : List ℕ → List ℕ → ℕ → List ℕ → List Bool → 
 rowAt names counts base lengths voters among i = rowFrom names counts base lengths voters among (placeOf base i) (getD lengths i 0)
 
 -- the first k numbers of the row are f's
-pub record Row (f : ℕ → ℕ) (k : ℕ) (row : List ℕ) : Type 0 where
+pub record SharedRow (f : ℕ → ℕ) (k : ℕ) (row : List ℕ) : Type 0 where
   pub at : (j : ℕ) → j < k → getD row j 0 ≡ f j
 
 -- how many of the row share m blocks or more, m not zero
@@ -72,7 +74,7 @@ pub record Reached (names counts : List ℕ) (base : ℕ) (g : Agreement) (among
   pub none : NoneOver names counts base g among i r
 
 -- `best` blocks at sender `who`'s place have the grade, and no longer prefix of the log of a sender below i has it
-pub record Best (names counts : List ℕ) (base : ℕ) (g : Agreement) (among : List Bool) (best who i : ℕ) : Type 0 where
+pub record BestSoFar (names counts : List ℕ) (base : ℕ) (g : Agreement) (among : List Bool) (best who i : ℕ) : Type 0 where
   pub grade : GradeAt names counts base g among who best
   pub none : (j : ℕ) → j < i → NoneOver names counts base g among j best
 
@@ -80,3 +82,8 @@ pub record Best (names counts : List ℕ) (base : ℕ) (g : Agreement) (among : 
 pub record Climbing (names counts : List ℕ) (base : ℕ) (g : Agreement) (among : List Bool) (all : ℕ) : Type 0 where
   pub counted : Counted names counts base g all
   pub empty : Grade mostSenders ones (readingOf names counts base g among) []
+
+-- The best proposer so far and the next sender each have a place in the record.
+pub record Contest (best : Choice) (i : ℕ) : Type 0 where
+  pub place : HasPlace best
+  pub few : i < mostSenders

@@ -4,7 +4,7 @@ ghost use Prim.Native.Nat.{_<_};
 ghost use Rattle.agreement.specs.Limits.{mostSenders};
 ghost use Rattle.agreement.specs.Record.{withFirst, withSecond};
 ghost use Rattle.agreement.specs.Filing.{Files, fileOf};
-ghost use Rattle.agreement.specs.Asks.{Fit};
+ghost use Rattle.agreement.specs.Filing.{Fit};
 use super::Agreement;
 use super::Answer;
 use super::Filed;
@@ -63,17 +63,15 @@ fn file_fit(
                 agreement: g,
             };
         }
-        let h = with_second(g, i);
         return Filed {
             answer: Answer::Second,
-            agreement: h,
+            agreement: with_second(g, i),
         };
     }
     store_log(names, counts, base, bytes, sender);
-    let h = with_first(g, i, bytes[0]);
     Filed {
         answer: Answer::First,
-        agreement: h,
+        agreement: with_first(g, i, bytes[0]),
     }
 }
 

@@ -1,4 +1,5 @@
-// Reading a grade: the longest log that more than half of all senders support. Each pair of logs is walked once at the most.
+// Reading a grade: the longest log that more than half of all senders support. Each of 32 logs is walked along
+// with each of 32 once at the most.
 ghost use mathlib.Core.Path.{_≡_};
 ghost use mathlib.Core.Bool.{_&&_, _||_};
 ghost use Prim.Native.Nat.{_≤_, _<_};
@@ -12,7 +13,7 @@ ghost use Rattle.agreement.specs.Sets.{share, ones, count, member};
 ghost use Rattle.agreement.specs.Reading.{longest};
 ghost use Rattle.agreement.specs.Record.{isSender, overlong, readingOf};
 ghost use Rattle.agreement.specs.Grades.{Gives, gradeAmong, gradeZero, gradeOne, gradeTwo};
-ghost use Rattle.agreement.specs.Steps.{Readable, Counted, Climbing, Row, rowAt, Highest, Reached};
+ghost use Rattle.agreement.specs.Steps.{Readable, Counted, Climbing, SharedRow, rowAt, Highest, Reached};
 use super::Agreement;
 use super::Grade;
 use super::MOST_BLOCKS;
@@ -87,7 +88,7 @@ fn shared_row(
     i: usize,
 ) -> [u8; 32]
     requires { ⌜ i < mostSenders ⌝ }
-    ensures { λ r. ⌜ Row (rowAt (now (names .entry)) (now (counts .entry)) base (g .lengths) (g .voters) among i) mostSenders r ⌝ }
+    ensures { λ r. ⌜ SharedRow (rowAt (now (names .entry)) (now (counts .entry)) base (g .lengths) (g .voters) among i) mostSenders r ⌝ }
 {
     let lengths = g.lengths;
     let voters = g.voters;

@@ -13,7 +13,7 @@ const MOST_BLOCKS: usize = 64;
 
 const MOST_SENDERS: usize = 32;
 
-const SPAN: usize = 2048;
+const SPAN: usize = MOST_SENDERS * MOST_BLOCKS;
 
 // The agreement of a view. A bench is a validator; its number is its place in each array.
 pub struct Agreement {
@@ -59,7 +59,7 @@ pub struct FiledProposal {
     pub proposals: Proposals,
 }
 
-// A grade: the longest log that has it, by a sender whose log starts with it and its number of blocks; or nothing.
+// A grade: the longest log that has it, by the sender at whose place it stands and its number of blocks; or nothing.
 pub enum Grade {
     Longest(u8, u8),
     Nothing,

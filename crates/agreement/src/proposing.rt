@@ -1,5 +1,5 @@
 // The proposals of a view: filed as LOGs are, and the vote, which is for the best of those that have the lock as a prefix.
-// Each answers for every record, place and length.
+// Each public function answers for every record, place and length.
 ghost use mathlib.Core.Path.{_≡_};
 ghost use Prim.Native.Nat.{ℕ, _<_};
 ghost use mathlib.Core.Bool.{_&&_, _||_};
@@ -10,7 +10,8 @@ ghost use Rattle.message.specs.Message.{logIn};
 ghost use Rattle.agreement.specs.Limits.{mostSenders};
 ghost use Rattle.agreement.specs.Sets.{member};
 ghost use Rattle.agreement.specs.Record.{filedLog};
-ghost use Rattle.agreement.specs.Asks.{Fit, Contest};
+ghost use Rattle.agreement.specs.Filing.{Fit};
+ghost use Rattle.agreement.specs.Steps.{Contest};
 ghost use Rattle.agreement.specs.Proposals.{emptyProposals, withProposal, withAside, fileProposalOf, FilesProposal, fits, better, ifFits, choiceOf, chosen, Chooses};
 use super::Answer;
 use super::Choice;

@@ -1,4 +1,4 @@
-// What filing a LOG and filing a PROPOSAL share: whether anything can be filed, whether it is filed already, and filing it.
+// What filing, grades and the vote share: room in the lists; whether anything can be filed, is filed already, and filing it.
 // Logs stand from `base` on, 64 places for each sender.
 ghost use mathlib.Core.Path.{_≡_};
 ghost use Rattle.message.specs.Logs.{sameLog, namesOf, countsOf};
@@ -7,7 +7,7 @@ ghost use Rattle.message.specs.Numbers.{put};
 ghost use Rattle.agreement.specs.Limits.{placeOf};
 ghost use Rattle.agreement.specs.Record.{filedLog, lacksRoom};
 ghost use Rattle.agreement.specs.Filing.{unfit};
-ghost use Rattle.agreement.specs.Asks.{Fit};
+ghost use Rattle.agreement.specs.Filing.{Fit};
 use super::MOST_BLOCKS;
 use super::MOST_SENDERS;
 use super::SPAN;

@@ -1,5 +1,6 @@
 // Logs in the two lent lists, names in one and entry counts in the other: compared, filed from a message, copied.
-// Each answers for every place and length: what is no log within the lists is answered by false, and nothing is written.
+// Each answers for every place and length: what is no log within the lists is answered by false, or
+// by 0 where a number is asked, and nothing is written.
 ghost use mathlib.Core.Path.{_≡_};
 ghost use Prim.Native.Nat.{_<_, _≤_};
 ghost use Rattle.message.specs.Limits.{mostBlocks, nameWidth, countWidth};

@@ -97,12 +97,16 @@ fn tied_votes() {
         .vote();
 }
 
-// Another count is another block; the last sender counts like any other; 64 blocks leave the neighbour's log as it is.
+// Another count is another block; a prefix that nobody sent whole; the empty log; no snapshot; the last sender; 64 blocks.
 fn more_grade_zero() {
     heard().send(0, 5).send_log(1, other_count()).grade(0);
+    heard().send(0, 56).send(1, 57).grade(0);
+    heard().send(0, 0).grade(0);
+    heard().send(0, 5).snap_two().send(1, 5).grade(0);
     heard().send(30, 7).send(31, 5).grade(0);
     heard().send(31, 5).grade(0);
     heard().send(1, 5).send(2, 5).send_longest(0).grade(0);
+    heard().send_longest(0).grade(0);
 }
 
 // Which snapshot serves which grade.
@@ -134,13 +138,15 @@ fn snapshots() {
         .grade(2);
 }
 
-// A snapshot of nobody; one taken again; an equivocation after one.
+// A snapshot of nobody; one taken again; an equivocation after one, and before.
 fn later_logs() {
     heard().snap_one().send(0, 5).grade(2);
     heard().send(0, 5).snap_one().send(1, 5).grade(2);
     heard().send(0, 5).snap_one().send(1, 5).snap_one().grade(2);
     heard().send(0, 5).send(1, 5).snap_two().send(1, 7).grade(1);
     heard().send(0, 5).send(1, 5).snap_one().send(1, 7).grade(2);
+    heard().send(0, 5).equivocate(1).snap_two().grade(1);
+    heard().send(0, 5).equivocate(1).snap_one().grade(2);
 }
 
 // The answers to a LOG: the same again, another, and what an equivocator sends.
@@ -149,6 +155,9 @@ fn log_answers() {
     heard().send(0, 5).send(1, 5).answer();
     heard().send(0, 0).answer();
     heard().send(0, 5).send(0, 5).answer();
+    heard().send(0, 0).send(0, 0).answer();
+    heard().send(0, 0).send(0, 5).answer();
+    heard().send(0, 5).send(0, 5).grade(0);
     heard().send(0, 5).send(0, 7).answer();
     heard().send(0, 5).send(0, 56).answer();
     heard().send(0, 5).send(0, 0).answer();
@@ -180,12 +189,17 @@ fn proposal_answers() {
 fn more_votes() {
     View::locked(5).propose(0, 567, 3).propose(1, 57, 4).vote();
     View::locked(5).propose(1, 57, 9).propose(0, 56, 9).vote();
+    View::locked(5).propose(0, 5, 9).propose(1, 56, 9).vote();
+    View::locked(5).propose(31, 56, 9).vote();
+    View::locked(5).propose(0, 56, 9).propose(0, 56, 9).vote();
     View::locked(5).propose(3, 5, 0).vote();
     View::locked(5).vote();
     View::locked(5).propose(2, 8, 20).vote();
     View::locked(56).propose(0, 5, 9).vote();
     View::locked(5).propose_log(0, other_count(), 9).vote();
     View::locked(0).propose(0, 56, 9).propose(2, 8, 20).vote();
+    View::locked(0).propose(0, 0, 9).vote();
+    View::locked(0).vote();
     View::locked(5)
         .propose(0, 56, 9)
         .propose(1, 57, 8)

@@ -3,13 +3,13 @@ use Prim.Native.Nat.{_≤_, _-_}
 use mathlib.Core.Path.{_≡_, refl}
 use lib.ListN.{length, length-set, getD}
 use Rattle.agreement.specs.Limits.{mostSenders, placeOf}
-use Rattle.agreement.specs.Steps.{Row, rowFrom}
+use Rattle.agreement.specs.Steps.{SharedRow, rowFrom}
 use borrow.Author.Needs.{needs}
 use Rattle.agreement.proofs.grading.shared_row.Statement.{statement}
 use Rattle.agreement.proofs.grading.shared_row.Tie as tie
 
 abbrev Inv-loop : tie.InvT-loop
-Inv-loop names counts base i among lengths voters x a row₀ j₀ row j = ((j ≤ mostSenders) × (length row ≡ mostSenders)) × (((a ≡ placeOf base i) × (x ≡ getD lengths i 0)) × Row (rowFrom names counts base lengths voters among a x) j row)
+Inv-loop names counts base i among lengths voters x a row₀ j₀ row j = ((j ≤ mostSenders) × (length row ≡ mostSenders)) × (((a ≡ placeOf base i) × (x ≡ getD lengths i 0)) × SharedRow (rowFrom names counts base lengths voters among a x) j row)
 
 abbrev μ-loop : tie.MeasureT-loop
 μ-loop names counts base i among lengths voters x a row₀ j₀ row j = mostSenders - j
