@@ -34,7 +34,7 @@ gradeOne names counts base g = pick (g .hastwo) (gradeAmong names counts base g 
 abbrev pub gradeTwo : List ℕ → List ℕ → ℕ → Agreement → Option Log
 gradeTwo names counts base g = pick (g .hasone) (gradeAmong names counts base g (g .one)) none
 
--- the code's answer, as the log it stands for: the first k blocks of sender i's log
+-- the code's answer, as the log it stands for: the k blocks at sender i's place
 abbrev pub logOf : List ℕ → List ℕ → ℕ → Grade → Option Log
 logOf names counts base Nothing = none
 logOf names counts base (Longest i k) = some (logAt names counts (placeOf base i) k)
