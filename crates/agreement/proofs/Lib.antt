@@ -8,6 +8,12 @@ pub mod Starred
 pub mod AnswerLaws
 -- Filing, as one rule of what is kept of a sender:
 pub mod KeptLaws
+pub mod ElsewhereLaws
+-- What the messages heard come to; a record's grades and vote by what it keeps; where a log that is read comes from:
+pub mod KeptOfLaws
+pub mod RecordLaws
+pub mod GradeSources
+pub mod SenderLaws
 -- What the proofs of functions cite. Filing:
 pub mod FilingLaws
 pub mod FileCases

@@ -9,5 +9,7 @@ pub mod Filing
 pub mod Grades
 pub mod Proposals
 pub mod Kept
+-- The same by the messages heard, no record asked:
+pub mod Heard
 -- What functions inside this crate ask and promise each other; no reader needs these:
 pub mod Steps

@@ -1,0 +1,263 @@
+-- A record's grades and its vote are those of what it keeps of each sender, and only the senders below n matter to them. Assumes nothing.
+use Prim.Native.Nat.{ℕ, zero, suc, _+_, _-_, _≤_, _<_}
+use native.Mathlib.Nat.{le-refl}
+use native.Mathlib.Omega.{arith}
+use mathlib.Core.Bool.{Bool, true, false, not, _&&_, false≢true}
+use mathlib.Core.List.{List}
+use mathlib.Core.Option.{Option, some, none}
+use mathlib.Core.Path.{_≡_, refl, sym, ap, _∙_}
+use borrow.Author.Tests.{ltb-true, ltb-false, le-ltb}
+use lib.Dec.{ltb}
+use lib.ListN.{length, getD}
+use Rattle.message.specs.Limits.{mostBlocks}
+use Rattle.message.specs.Choice.{pick}
+use Rattle.message.specs.Logs.{Log, isPrefix}
+use Rattle.message.specs.Store.{logAt, within, prefixAt}
+use Rattle.message.proofs.TestLaws.{either, or-false}
+use Rattle.message.proofs.Inside.{prefix-inside}
+use Rattle.agreement.specs.Limits.{mostSenders, span, placeOf}
+use Rattle.agreement.specs.Sets.{ones, count, member}
+use Rattle.agreement.specs.Reading.{longest}
+use Rattle.agreement.specs.Record.{isVoter, isEquivocator, filedLog, lacksRoom, overlong, readingOf}
+use Rattle.agreement.specs.Grades.{gradeAmong, gradeZero, gradeOne, gradeTwo}
+use Rattle.agreement.specs.Kept.{Kept, nothing, only, differing, singleOf, heardOf, keptLog, Proposed, keptProposal}
+use Rattle.agreement.specs.Heard.{onlyLog, readingFrom, gradeNow, gradeWith, mayChoose, priorityOf, proposedLog, orLock, voteAmong}
+use Rattle.agreement.specs.Proposals.{fits, ifFits, bestOf, choiceOf}
+use Rattle.agreement.specs.declared.Agreement.{Agreement}
+use Rattle.agreement.specs.declared.Proposals.{Proposals}
+use Rattle.agreement.proofs.SetLaws.{weigh-some}
+use Rattle.agreement.proofs.ReadingLaws.{Alike, Beyond}
+use Rattle.agreement.proofs.LongestLaws.{longest-cong, longest-cut}
+use Rattle.agreement.proofs.FilingLaws.{within-room}
+use Rattle.agreement.proofs.ChoiceLaws.{best-is}
+use Rattle.agreement.proofs.KeptLaws.{kept-sender, kept-voter, kept-only}
+
+-- ---- an agreement of n senders, within the limits of its record
+
+pub record Within (n : ℕ) (g : Agreement) : Type 0 where
+  pub few : n ≤ mostSenders
+  -- no sender at n or above is in V or in E
+  pub voters : (i : ℕ) → n ≤ i → i < mostSenders → isVoter g i ≡ false
+  pub equivocators : (i : ℕ) → n ≤ i → i < mostSenders → isEquivocator g i ≡ false
+  -- no sender is in both
+  pub apart : (i : ℕ) → i < mostSenders → isVoter g i ≡ true → isEquivocator g i ≡ false
+  -- no log is over 64 blocks
+  pub short : (i : ℕ) → i < mostSenders → getD (g .lengths) i 0 ≤ mostBlocks
+
+short-not-overlong : (lengths : List ℕ) → ((i : ℕ) → i < mostSenders → getD lengths i 0 ≤ mostBlocks) → overlong lengths ≡ false
+unfolding overlong
+short-not-overlong lengths h =
+    either (overlong lengths)
+    (λ t.
+    let long : ℕ → Bool = λ (i : ℕ). ltb mostBlocks (getD lengths i 0) in
+    let m = weigh-some mostSenders ones long (ltb-true 0 (count mostSenders long) t) in
+    absurd (false≢true (sym (le-ltb mostBlocks (getD lengths (m .sender) 0) (h (m .sender) (m .below))) ∙ m .left)))
+    (λ t. t)
+
+module _ (n : ℕ) (names counts : List ℕ) (base : ℕ) (g : Agreement) (w : Within n g) where
+  not-both : (i : ℕ) → i < mostSenders → (isVoter g i && isEquivocator g i) ≡ false
+  not-both i l = go (isVoter g i) (isEquivocator g i) (w .apart i l)
+    where
+      go : (v e : Bool) → (v ≡ true → e ≡ false) → (v && e) ≡ false
+      go true e h = h refl
+      go false e h = refl
+
+  beyond : (among : List Bool) → Beyond n (mostSenders - n) (readingOf names counts base g among)
+  beyond among =
+      let f = w .few in
+      record {
+        heard = λ i h l. rw (w .voters i h (omega arith), w .equivocators i h (omega arith)) refl;
+        single = λ i h l. w .voters i h (omega arith);
+      }
+
+  alike : (among : List Bool) (snap : ℕ → Bool) → ((i : ℕ) → i < n → member among i ≡ snap i)
+      → Alike n (readingOf names counts base g among) (readingFrom (keptLog names counts base g) snap)
+  alike among snap s =
+      let f = w .few in
+      record {
+        heard = λ i l. kept-sender names counts base g i;
+        single = λ i l. kept-voter names counts base g i (not-both i (omega arith));
+        snap = s;
+        log = λ i l v. sym (ap onlyLog (kept-only names counts base g i (not-both i (omega arith)) v));
+      }
+
+  module _ (room : lacksRoom names counts base ≡ false) where
+    grade-among : (among : List Bool) (snap : ℕ → Bool) → ((i : ℕ) → i < n → member among i ≡ snap i)
+        → gradeAmong names counts base g among ≡ longest n ones (readingFrom (keptLog names counts base g) snap)
+    unfolding gradeAmong
+    grade-among among snap s =
+        let f = w .few in
+        let e : n + (mostSenders - n) ≡ mostSenders = omega arith in
+        rw (room, short-not-overlong (g .lengths) (w .short))
+        (ap (λ (k : ℕ). longest k ones (readingOf names counts base g among)) (sym e)
+        ∙ longest-cut n (mostSenders - n) ones (readingOf names counts base g among) (beyond among)
+        ∙ longest-cong n ones (alike among snap s))
+
+    -- grade 0 uses no snapshot
+    pub grade-zero : gradeZero names counts base g ≡ gradeNow n (keptLog names counts base g)
+    unfolding gradeNow
+    grade-zero =
+        let f = w .few in
+        grade-among (g .voters) (λ (i : ℕ). singleOf (keptLog names counts base g i)) (λ i l. kept-voter names counts base g i (not-both i (omega arith)))
+
+    grade-with : (has : Bool) (among : List Bool)
+        → pick has (gradeAmong names counts base g among) none ≡ gradeWith n (keptLog names counts base g) (pick has (some (member among)) none)
+    unfolding gradeWith
+    grade-with true among = grade-among among (member among) (λ i l. refl)
+    grade-with false among = refl
+
+    -- grades 1 and 2 are there only with their snapshots
+    pub grade-one : gradeOne names counts base g ≡ gradeWith n (keptLog names counts base g) (pick (g .hastwo) (some (member (g .two))) none)
+    grade-one = grade-with (g .hastwo) (g .two)
+
+    pub grade-two : gradeTwo names counts base g ≡ gradeWith n (keptLog names counts base g) (pick (g .hasone) (some (member (g .one))) none)
+    grade-two = grade-with (g .hasone) (g .one)
+
+-- ---- a grade depends on what is kept of the senders below n, and on the snapshot below n
+
+module _ (n : ℕ) (logs logs′ : ℕ → Kept Log) (h : (i : ℕ) → i < n → logs i ≡ logs′ i) where
+  reading-alike : (snap snap′ : ℕ → Bool) → ((i : ℕ) → i < n → snap i ≡ snap′ i) → Alike n (readingFrom logs snap) (readingFrom logs′ snap′)
+  reading-alike snap snap′ s = record {
+    heard = λ i l. ap heardOf (h i l);
+    single = λ i l. ap singleOf (h i l);
+    snap = s;
+    log = λ i l v. ap onlyLog (h i l);
+  }
+
+  pub gradeNow-cong : gradeNow n logs ≡ gradeNow n logs′
+  unfolding gradeNow
+  gradeNow-cong =
+      longest-cong n ones
+      (reading-alike (λ (i : ℕ). singleOf (logs i)) (λ (i : ℕ). singleOf (logs′ i)) (λ i l. ap singleOf (h i l)))
+
+  pub gradeWith-cong : (o : Option (ℕ → Bool)) → gradeWith n logs o ≡ gradeWith n logs′ o
+  unfolding gradeWith
+  gradeWith-cong none = refl
+  gradeWith-cong (some snap) = longest-cong n ones (reading-alike snap snap (λ i l. refl))
+
+  pub gradeWith-snap : (snap snap′ : ℕ → Bool) → ((i : ℕ) → i < n → snap i ≡ snap′ i)
+      → gradeWith n logs (some snap) ≡ gradeWith n logs′ (some snap′)
+  unfolding gradeWith
+  gradeWith-snap snap snap′ s = longest-cong n ones (reading-alike snap snap′ s)
+
+-- ---- the best sender, by who passes below n and by the priorities of those that pass
+
+-- senders from n on change nothing where none of them passes
+best-cut : (n d : ℕ) (p : ℕ → Bool) (q : ℕ → ℕ) → ((i : ℕ) → n ≤ i → i < n + d → p i ≡ false) → bestOf (n + d) p q ≡ bestOf n p q
+unfolding bestOf
+best-cut n zero p q h = let s : n + 0 ≡ n = omega arith in ap (λ (k : ℕ). bestOf k p q) s
+best-cut n (suc d) p q h =
+    let s : n + suc d ≡ suc (n + d) = omega arith in
+    let e = h (n + d) (omega arith) (omega arith) in
+    let r = best-cut n d p q (λ i a b. h i a (omega arith)) in
+    ap (λ (k : ℕ). bestOf k p q) s ∙ (λ i. ifFits (e i) q (bestOf (n + d) p q) (n + d)) ∙ r
+
+module _ (p p′ : ℕ → Bool) (q q′ : ℕ → ℕ) where
+  -- one sender more, where its priority and that of the best so far are the same
+  one-more : (n : ℕ) (t : Bool) (o : Option ℕ) → (t ≡ true → q n ≡ q′ n) → ((j : ℕ) → o ≡ some j → q j ≡ q′ j)
+      → ifFits t q o n ≡ ifFits t q′ o n
+  one-more n true none f h = refl
+  one-more n true (some j) f h = let a = h j refl in let b = f refl in λ i. some (pick (ltb (a i) (b i)) n j)
+  one-more n false o f h = refl
+
+  best-cong : (n : ℕ) → ((i : ℕ) → i < n → p i ≡ p′ i) → ((i : ℕ) → i < n → p i ≡ true → q i ≡ q′ i) → bestOf n p q ≡ bestOf n p′ q′
+  unfolding bestOf
+  best-cong zero f h = refl
+  best-cong (suc n) f h =
+      let e = f n (le-refl (suc n)) in
+      let r = best-cong n (λ i l. f i (omega arith)) (λ i l. h i (omega arith)) in
+      one-more n (p n) (bestOf n p q) (h n (le-refl (suc n)))
+      (λ j s. let b = best-is p q n j s in h j (omega (arith, b .below)) (b .passes))
+      ∙ (λ i. ifFits (e i) q′ (r i) n)
+
+-- ---- the vote
+
+-- the test and the priority of each sender, as a vote reads them
+abbrev may : Log → (ℕ → Kept Proposed) → ℕ → Bool
+may L kept s = mayChoose L (kept s)
+
+abbrev priority : (ℕ → Kept Proposed) → ℕ → ℕ
+priority kept s = priorityOf (kept s)
+
+-- senders from n on change nothing where nothing of them is kept
+pub vote-cut : (n d : ℕ) (kept : ℕ → Kept Proposed) (L : Log) → ((i : ℕ) → n ≤ i → i < n + d → kept i ≡ nothing)
+    → voteAmong (n + d) kept L ≡ voteAmong n kept L
+unfolding voteAmong
+vote-cut n d kept L h = ap (orLock kept L) (best-cut n d (may L kept) (priority kept) (λ i a b. ap (mayChoose L) (h i a b)))
+
+-- the vote depends on what is kept of the senders below n
+pub vote-cong : (n : ℕ) (kept kept′ : ℕ → Kept Proposed) (L : Log) → ((i : ℕ) → i < n → kept i ≡ kept′ i)
+    → voteAmong n kept L ≡ voteAmong n kept′ L
+unfolding voteAmong
+vote-cong n kept kept′ L h =
+    go (bestOf n (may L kept) (priority kept)) refl
+    ∙ ap (orLock kept′ L)
+    (best-cong (may L kept) (may L kept′) (priority kept) (priority kept′) n (λ i l. ap (mayChoose L) (h i l)) (λ i l e. ap priorityOf (h i l)))
+  where
+    go : (o : Option ℕ) → bestOf n (may L kept) (priority kept) ≡ o → orLock kept L o ≡ orLock kept′ L o
+    go none e = refl
+    go (some i) e = ap proposedLog (h i (best-is (may L kept) (priority kept) n i e .below))
+
+-- of a record that has nothing of senders at n or above, the vote among 32 is that among n
+pub vote-kept : (n : ℕ) (names counts : List ℕ) (base : ℕ) (g : Proposals) (L : Log) → n ≤ mostSenders
+    → ((i : ℕ) → n ≤ i → i < mostSenders → member (g .filed) i ≡ false)
+    → ((i : ℕ) → n ≤ i → i < mostSenders → member (g .aside) i ≡ false)
+    → voteAmong mostSenders (keptProposal names counts base g) L ≡ voteAmong n (keptProposal names counts base g) L
+unfolding keptProposal
+vote-kept n names counts base g L f filed aside =
+    let e : n + (mostSenders - n) ≡ mostSenders = omega arith in
+    ap (λ (k : ℕ). voteAmong k (keptProposal names counts base g) L) (sym e)
+    ∙ vote-cut n (mostSenders - n) (keptProposal names counts base g) L (λ i h l. rw (aside i h (omega arith), filed i h (omega arith)) refl)
+
+-- ---- the record's choice, the lock being the k blocks at place a
+
+module _ (names counts : List ℕ) (base : ℕ) (g : Proposals) (a k : ℕ) (room : lacksRoom names counts base ≡ false)
+    (short : (i : ℕ) → i < mostSenders → getD (g .lengths) i 0 ≤ mostBlocks) (lock : within names counts a k ≡ true) where
+  prefix-filed : (i : ℕ) → i < mostSenders
+      → prefixAt names counts a k (placeOf base i) (getD (g .lengths) i 0) ≡ isPrefix (logAt names counts a k) (filedLog names counts base (g .lengths) i)
+  prefix-filed i l =
+      let r = or-false (ltb (length names) (base + span)) (ltb (length counts) (base + span)) room in
+      let n = ltb-false (length names) (base + span) (r .0) in
+      let m = ltb-false (length counts) (base + span) (r .1) in
+      prefix-inside names counts a k (placeOf base i) (getD (g .lengths) i 0) lock
+      (within-room names counts base i (getD (g .lengths) i 0) n m l (short i l))
+
+  -- sender i's proposal as it is filed
+  abbrev filed : ℕ → Proposed
+  filed i = record { log = filedLog names counts base (g .lengths) i; priority = getD (g .priorities) i 0 }
+
+  fits-kept : (i : ℕ) → i < mostSenders → fits names counts base g a k i ≡ mayChoose (logAt names counts a k) (keptProposal names counts base g i)
+  unfolding keptProposal
+  fits-kept i l = rw (prefix-filed i l) (go (member (g .filed) i) (member (g .aside) i))
+    where
+      go : (f s : Bool) → (f && (not s && isPrefix (logAt names counts a k) (filed i .log)))
+          ≡ mayChoose (logAt names counts a k) (pick s differing (pick f (only (filed i)) nothing))
+      go true true = refl
+      go true false = refl
+      go false true = refl
+      go false false = refl
+
+  priority-kept : (i : ℕ) → fits names counts base g a k i ≡ true → getD (g .priorities) i 0 ≡ priorityOf (keptProposal names counts base g i)
+  unfolding keptProposal
+  priority-kept i e = go (member (g .filed) i) (member (g .aside) i) (prefixAt names counts a k (placeOf base i) (getD (g .lengths) i 0)) e
+    where
+      go : (f s t : Bool) → (f && (not s && t)) ≡ true → filed i .priority ≡ priorityOf (pick s differing (pick f (only (filed i)) nothing))
+      go true true t q = absurd (false≢true q)
+      go true false t q = refl
+      go false s t q = absurd (false≢true q)
+
+  -- the sender chosen is that of what is kept
+  pub choice-vote : choiceOf names counts base g a k
+      ≡ bestOf mostSenders (λ (s : ℕ). mayChoose (logAt names counts a k) (keptProposal names counts base g s))
+      (λ (s : ℕ). priorityOf (keptProposal names counts base g s))
+  unfolding choiceOf
+  choice-vote =
+      rw room
+      (best-cong (fits names counts base g a k) (may (logAt names counts a k) (keptProposal names counts base g))
+      (λ (i : ℕ). getD (g .priorities) i 0) (priority (keptProposal names counts base g)) mostSenders fits-kept (λ i l. priority-kept i))
+
+  -- and so is the log voted for
+  pub choice-voted : orLock (keptProposal names counts base g) (logAt names counts a k) (choiceOf names counts base g a k)
+      ≡ voteAmong mostSenders (keptProposal names counts base g) (logAt names counts a k)
+  unfolding voteAmong
+  choice-voted = ap (orLock (keptProposal names counts base g) (logAt names counts a k)) choice-vote

@@ -1,0 +1,226 @@
+-- Act: the record does what the history says, answers what it answers, and stays tied to it. Assumes nothing.
+use Prim.Native.Nat.{ℕ, zero, suc, _+_, _-_, _^_, _≤_, _<_}
+use native.Mathlib.Omega.{arith}
+use mathlib.Core.Bool.{Bool, true, false, not, _||_}
+use mathlib.Core.List.{List, [], _∷_, _++_}
+use mathlib.Core.Option.{Option, some, none, Option·none-ne-some, Option·some-injective}
+use mathlib.Core.Path.{_≡_, refl, sym, ap, subst, _∙_}
+use borrow.Author.Tests.{leb-true, leb-false, le-leb}
+use lib.Dec.{eqb, ltb}
+use lib.ListN.{length}
+use Rattle.message.specs.Logs.{Block, Log}
+use Rattle.message.specs.Message.{Meaning, proposalMessage, bytesOf}
+use Rattle.message.specs.Store.{logAt}
+use Rattle.message.proofs.TestLaws.{either}
+use Rattle.message.proofs.Codec.{read-written}
+use Rattle.agreement.specs.Record.{withOne, withTwo}
+use Rattle.bench.specs.Layout.{decidedPlace, mostBytes}
+use Rattle.bench.specs.Calendar.{lastView, viewBeat, inputBeat, snapshotOneBeat, snapshotTwoBeat, closeBeat, viewOf, placeIn, actAt}
+use Rattle.bench.specs.Calls.{act, acted, openTo, Typed}
+use Rattle.bench.specs.Acts.{Seen, mayPropose, isView, inViews, propose, vote, makes, outAfter, decides}
+use Rattle.bench.specs.History.{History, beatNow, refusal, seenAt, madeBy, decidedBy, fileMade, closed, accepted, answer, acceptedAnswer, standIn}
+use Rattle.bench.specs.Record.{agreementOf, proposalsOf, beatOf, idle}
+use Rattle.bench.specs.ByRecord.{State, candidateOf, lockOf, decisionOf, seenOf, settled, snappedOne, snappedTwo, changed, withMade, actedOf, over, actOf}
+use Rattle.bench.specs.declared.Bench.{Bench}
+use Rattle.bench.proofs.Fine.{Fine}
+use Rattle.bench.proofs.FineAgreements.{one-fine, two-fine}
+use Rattle.bench.proofs.FineBench.{with-agreement-fine}
+use Rattle.bench.proofs.Slots.{agreement-fine, agreement-rest, SameBesides}
+use Rattle.bench.proofs.GoodHistory.{GoodLog, decided-good, made-good}
+use Rattle.bench.proofs.Ties.{Filled, lastOf, Tie}
+use Rattle.bench.proofs.FilingTies.{file-tie}
+use Rattle.bench.proofs.CallTies.{Agrees, both-refuse, both-accept, in-limits, long-lists, beat-is, started, carries-read}
+use Rattle.bench.proofs.SeenTies.{makes-same, decides-same}
+use Rattle.bench.proofs.Settling.{Settled, decision-settled}
+use Rattle.bench.proofs.ActTies.{quiet-filled, one-filled, two-filled}
+
+-- ---- what is made is open at the beat at which it is made
+
+views-some : (v : ℕ) (o : Option Meaning) (m : Meaning) → inViews v o ≡ some m → (v ≤ lastView) × (o ≡ some m)
+views-some v o m e = go (isView v) refl
+  where
+    go : (t : Bool) → isView v ≡ t → (v ≤ lastView) × (o ≡ some m)
+    go true q = (leb-true v lastView q, rw q at e)
+    go false q = absurd (Option·none-ne-some _ (rw q at e))
+
+proposal-open : (own v : ℕ) (block : Block) (priority : ℕ) (C : Option Log) (m : Meaning) (beat : ℕ) → propose own v block priority C ≡ some m → beat ≡ viewBeat v → openTo m beat ≡ true
+unfolding propose
+proposal-open own v block priority none m beat e h = absurd (Option·none-ne-some _ e)
+proposal-open own v block priority (some C) m beat e h = go (mayPropose block C) refl
+  where
+    open-then : openTo (proposalMessage (record { sender = own; view = v; log = C ++ (block ∷ []) }) priority) beat ≡ true
+    open-then = rw (le-leb (viewBeat v) beat (omega arith), le-leb beat (inputBeat v) (omega arith))
+
+    go : (t : Bool) → mayPropose block C ≡ t → openTo m beat ≡ true
+    go true q = subst (λ (x : Meaning). openTo x beat ≡ true) (Option·some-injective _ _ (rw q at e)) open-then
+    go false q = absurd (Option·none-ne-some _ (rw q at e))
+
+vote-open : (own v : ℕ) (choose : Log → Log) (lock : Option Log) (m : Meaning) (beat : ℕ) → vote own v choose lock ≡ some m → beat ≡ inputBeat v → openTo m beat ≡ true
+unfolding vote
+vote-open own v choose none m beat e h = absurd (Option·none-ne-some _ e)
+vote-open own v choose (some L) m beat e h =
+    subst (λ (x : Meaning). openTo x beat ≡ true) (Option·some-injective _ _ e) (rw (le-leb (inputBeat v) beat (omega arith), le-leb beat (closeBeat v) (omega arith)) refl)
+
+made-open : (own v r : ℕ) (block : Block) (priority : ℕ) (seen : Seen) (m : Meaning) (beat : ℕ) → viewOf beat ≡ v → placeIn beat ≡ r
+    → makes own v block priority seen (actAt r) ≡ some m → openTo m beat ≡ true
+unfolding makes
+made-open own v zero block priority seen m beat ev er e =
+    proposal-open own v block priority (seen .candidate) m beat (views-some v _ m e .1) (omega arith)
+made-open own v (suc zero) block priority seen m beat ev er e =
+    vote-open own v (seen .choose) (seen .lock) m beat (views-some v _ m e .1) (omega arith)
+made-open own v (suc (suc zero)) block priority seen m beat ev er e = absurd (Option·none-ne-some _ e)
+made-open own v (suc (suc (suc r))) block priority seen m beat ev er e = absurd (Option·none-ne-some _ e)
+
+last-injective : (j k : ℕ) → lastOf j ≡ lastOf k → j ≡ k
+last-injective zero zero e = refl
+last-injective zero (suc k) e = absurd (Option·none-ne-some _ e)
+last-injective (suc j) zero e = absurd (Option·none-ne-some _ (sym e))
+last-injective (suc j) (suc k) e = ap suc (Option·some-injective _ _ e)
+
+-- ---- the end of the gathering does not change what is seen
+
+over-seen : (s : State) (v : ℕ) → seenOf (over s) v ≡ seenOf s v
+unfolding candidateOf lockOf decisionOf agreementOf proposalsOf
+over-seen s zero = refl
+over-seen s (suc u) = refl
+
+module _ (n own : ℕ) (s : State) (p : History) (t : Tie n own s p) (busy : p .gathering ≡ true) where
+  abbrev beat : ℕ
+  beat = beatOf (s .bench)
+
+  now : beatNow p ≡ beat
+  now = sym (beat-is t)
+
+  next : s .bench .next ≡ beat + 1
+  next = let l = started t busy in omega arith
+
+  -- ---- the act's changes
+
+  module _ (made : Option Meaning) (d : Option Log) where
+    -- a settled state whose agreements alone changed since
+    rest-tie : {x : State} {c : Bench} → Settled n own s p d x → SameBesides (x .bench) c → Fine c → Filled c (x .lent) (closed p made d)
+        → Tie n own (record { bench = c; lent = x .lent }) (closed p made d)
+    unfolding standIn
+    rest-tie {x} {c} w r f h =
+        let e = r .decided in
+        let m = r .parted in
+        let g = r .gathering ∙ w .at-rest in
+        record {
+          n-is = r .n ∙ w .n-is;
+          own-is = r .own ∙ w .own-is;
+          fine = f;
+          roomy = w .roomy;
+          last-is = ap lastOf (r .next ∙ w .next-is) ∙ t .last-is;
+          gathering-is = ap (λ (y : Bool). not (not y || eqb (c .next) 0)) g;
+          filled = h;
+          stand-is = (λ i. record { log = logAt (x .lent .names) (x .lent .counts) decidedPlace (e i); parted = m i }) ∙ w .stand-is;
+          good = record { heard = t .good .heard; proposals = t .good .proposals; priorities = t .good .priorities };
+        }
+
+    settled-tie : {x : State} → Settled n own s p d x → ((u : ℕ) → u ≤ lastView → (beat ≡ snapshotOneBeat u → ⊥) × (beat ≡ snapshotTwoBeat u → ⊥)) → Tie n own x (closed p made d)
+    settled-tie {x} w quiet =
+        rest-tie w (record { n = refl; own = refl; next = refl; gathering = refl; proposals = refl; decided = refl; parted = refl }) (w .fine)
+        (quiet-filled p made d beat now (w .next-is ∙ next) (w .fine) (w .filled) quiet)
+
+    -- snapshot one of view v, or none after the last view
+    one-tie : {x : State} (v : ℕ) → Settled n own s p d x → beat ≡ snapshotOneBeat v → Tie n own (snappedOne v x) (closed p made d)
+    unfolding snappedOne
+    one-tie {x} v w e =
+        let nx = w .next-is ∙ next in
+        either (isView v)
+        (λ i.
+        let low = leb-true v lastView i in
+        let g = withOne (agreementOf (x .bench) v) in
+        rw i
+        (rest-tie w (agreement-rest (x .bench) v g)
+        (with-agreement-fine (x .bench) (w .fine) v g (one-fine (x .bench .n) (agreementOf (x .bench) v) (agreement-fine (x .bench) v low (w .fine))))
+        (one-filled p made d beat now nx (w .fine) (w .filled) v low (omega arith) (omega arith) e)))
+        (λ i. let high = leb-false v lastView i in rw i (settled-tie w (λ u l. ((λ z. omega arith), (λ z. omega arith)))))
+
+    two-tie : {x : State} (v : ℕ) → Settled n own s p d x → beat ≡ snapshotTwoBeat v → Tie n own (snappedTwo v x) (closed p made d)
+    unfolding snappedTwo
+    two-tie {x} v w e =
+        let nx = w .next-is ∙ next in
+        either (isView v)
+        (λ i.
+        let low = leb-true v lastView i in
+        let g = withTwo (agreementOf (x .bench) v) in
+        rw i
+        (rest-tie w (agreement-rest (x .bench) v g)
+        (with-agreement-fine (x .bench) (w .fine) v g (two-fine (x .bench .n) (agreementOf (x .bench) v) (agreement-fine (x .bench) v low (w .fine))))
+        (two-filled p made d beat now nx (w .fine) (w .filled) v low (omega arith) (omega arith) e)))
+        (λ i. let high = leb-false v lastView i in rw i (settled-tie w (λ u l. ((λ z. omega arith), (λ z. omega arith)))))
+
+  -- by the rows of the calendar
+  changed-tie : (made : Option Meaning) (v r : ℕ) → viewOf beat ≡ v → placeIn beat ≡ r → ((L : Log) → decides (seenOf (over s) v) (actAt r) ≡ some L → GoodLog L)
+      → Tie n own (changed (over s) v (actAt r)) (closed p made (decides (seenOf (over s) v) (actAt r)))
+  unfolding changed settled
+  changed-tie made v zero ev er good = settled-tie made none (decision-settled n own s p t none good) (λ u l. ((λ z. omega arith), (λ z. omega arith)))
+  changed-tie made v (suc zero) ev er good = settled-tie made none (decision-settled n own s p t none good) (λ u l. ((λ z. omega arith), (λ z. omega arith)))
+  changed-tie made v (suc (suc zero)) ev er good =
+      one-tie made (decisionOf (over s) v) v (decision-settled n own s p t (decisionOf (over s) v) good) (omega arith)
+  changed-tie made v (suc (suc (suc r))) ev er good = two-tie made none v (decision-settled n own s p t none good) (omega arith)
+
+  -- ---- what is made and decided
+
+  module _ (block : Block) (priority : ℕ) where
+    made-same : makes (s .bench .own) (viewOf beat) block priority (seenOf (over s) (viewOf beat)) (actAt (placeIn beat)) ≡ madeBy n own p block priority
+    unfolding madeBy
+    made-same =
+        ap (λ (k : ℕ). makes k (viewOf beat) block priority (seenOf (over s) (viewOf beat)) (actAt (placeIn beat))) (t .own-is)
+        ∙ ap (λ (x : Seen). makes own (viewOf beat) block priority x (actAt (placeIn beat))) (over-seen s (viewOf beat))
+        ∙ makes-same n own s p t block priority beat next (viewOf beat) (placeIn beat) refl refl
+        ∙ ap (λ (k : ℕ). makes own (viewOf k) block priority (seenAt n p (viewOf k)) (actAt (placeIn k))) (sym now)
+
+    decided-same : decides (seenOf (over s) (viewOf beat)) (actAt (placeIn beat)) ≡ decidedBy n p
+    unfolding decidedBy
+    decided-same =
+        ap (λ (x : Seen). decides x (actAt (placeIn beat))) (over-seen s (viewOf beat))
+        ∙ decides-same n own s p t block priority beat next (viewOf beat) (placeIn beat) refl refl
+        ∙ ap (λ (k : ℕ). decides (seenAt n p (viewOf k)) (actAt (placeIn k))) (sym now)
+
+    module _ (typed : (block .name < 2 ^ 64) × (block .count < 2 ^ 16) × (priority < 2 ^ 64)) where
+      -- what is made is filed in both
+      filed-tie : (x : State) (q : History) → Tie n own x q → x .bench .next ≡ s .bench .next → (o : Option Meaning) → o ≡ madeBy n own p block priority → Tie n own (withMade x o) (fileMade q o)
+      filed-tie x q h nx none e = h
+      filed-tie x q h nx (some m) e =
+          let lo : own < n = let a = t .fine .own in let c = t .own-is in let f = t .n-is in omega arith in
+          let w = made-good n own block priority lo (typed .0) (typed .1) (typed .2) p (t .good) m (sym e) in
+          let l = started t busy in
+          let o : openTo m beat ≡ true = made-open (s .bench .own) (viewOf beat) (placeIn beat) block priority (seenOf (over s) (viewOf beat)) m beat refl refl (made-same ∙ sym e) in
+          let same : beatOf (x .bench) ≡ beat = ap (λ (k : ℕ). k - 1) nx in
+          file-tie n own x q h (bytesOf m) (omega arith) m w (carries-read n (bytesOf m) m (read-written n m w)) (ap (openTo m) same ∙ o) .1
+
+      changes : Tie n own (changed (over s) (viewOf beat) (actAt (placeIn beat))) (closed p (madeBy n own p block priority) (decidedBy n p))
+      changes =
+          let e = decided-same in
+          subst (λ (d : Option Log). Tie n own (changed (over s) (viewOf beat) (actAt (placeIn beat))) (closed p (madeBy n own p block priority) d)) e
+          (changed-tie (madeBy n own p block priority) (viewOf beat) (placeIn beat) refl refl (λ L f. decided-good n p (t .good) L (sym e ∙ f)))
+
+      next-kept : changed (over s) (viewOf beat) (actAt (placeIn beat)) .bench .next ≡ s .bench .next
+      next-kept = last-injective _ (s .bench .next) (changes .last-is ∙ sym (t .last-is))
+
+      act-accepted : (out : List ℕ) → refusal n p (act block priority out) ≡ none
+          → Agrees n own s p (act block priority out) (actedOf (over s) block priority out (viewOf beat) (actAt (placeIn beat)))
+      unfolding actedOf accepted acceptedAnswer
+      act-accepted out ok =
+          let e = made-same in
+          both-accept n own s p t (act block priority out) (actedOf (over s) block priority out (viewOf beat) (actAt (placeIn beat))) ok
+          (λ i. record { reply = acted (e i); out = outAfter (e i) out })
+          (subst (λ (o : Option Meaning). Tie n own (withMade (changed (over s) (viewOf beat) (actAt (placeIn beat))) o) (fileMade (closed p (madeBy n own p block priority) (decidedBy n p)) (madeBy n own p block priority))) (sym e)
+          (filed-tie (changed (over s) (viewOf beat) (actAt (placeIn beat))) (closed p (madeBy n own p block priority) (decidedBy n p)) changes next-kept (madeBy n own p block priority) refl))
+
+pub act-agrees : (n own : ℕ) (s : State) (p : History) → Tie n own s p → (block : Block) (priority : ℕ) (out : List ℕ) → Typed (act block priority out)
+    → Agrees n own s p (act block priority out) (actOf s block priority out)
+unfolding actOf refusal answer
+act-agrees n own s p t block priority out typed =
+    either (ltb (length out) mostBytes)
+    (λ e. rw (in-limits t, long-lists t, e) (both-refuse n own s p t (act block priority out) out 11 (rw e) (rw e)))
+    (λ e. either (idle (s .bench))
+    (λ i.
+    let g : p .gathering ≡ false = sym (t .gathering-is) ∙ ap not i in
+    rw (in-limits t, long-lists t, e, i) (both-refuse n own s p t (act block priority out) out 22 (rw (e, g)) (rw (e, g))))
+    (λ i.
+    let g : p .gathering ≡ true = sym (t .gathering-is) ∙ ap not i in
+    rw (in-limits t, long-lists t, e, i)
+    (act-accepted n own s p t g block priority (typed .0, typed .1, typed .2) out (rw (e, g)))))

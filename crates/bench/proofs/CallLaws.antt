@@ -1,0 +1,163 @@
+-- Laws of one call by the history: what it takes not to be refused, the word answered, what filing leaves, and what an accepted call gives.
+-- Assumes nothing.
+use Prim.Native.Nat.{ℕ, _≤_}
+use mathlib.Core.Path.{_≡_, refl, sym, ap, _∙_}
+use mathlib.Core.Logic.{_⊎_, inl, inr}
+use mathlib.Core.List.{List, _∷_, List·Memᴰ as Mem, List·Memᴰ·tail}
+use mathlib.Core.Option.{Option, some, none, Option·some-ne-none}
+use mathlib.Core.Bool.{Bool, true, false, not, false≢true}
+use lib.Dec.{ltb}
+use lib.ListN.{length}
+use borrow.Author.Tests.{ltb-false}
+use Rattle.message.specs.Choice.{pick}
+use Rattle.message.specs.Logs.{Block}
+use Rattle.message.specs.Message.{Content, Meaning, logMessage, proposalMessage, Reading, refused as unread, means, readOf}
+use Rattle.agreement.specs.Filing.{Word}
+use Rattle.bench.specs.Layout.{mostBytes}
+use Rattle.bench.specs.Calendar.{lastBeat}
+use Rattle.bench.specs.Calls.{Call, begin, receive, act, took, Answer, openTo}
+use Rattle.bench.specs.History.{ActRecord, History, beatNow, notAbove, readingRefusal, refusal, wordFor, file, fileMade, closed, madeBy, decidedBy, accepted, wordRead, acceptedAnswer, step, answer}
+
+-- ---- a call is refused and changes nothing, or is accepted
+
+pub step-refused : (n own : ℕ) (p : History) (c : Call) (k : ℕ) → refusal n p c ≡ some k → step n own p c ≡ p
+unfolding step
+step-refused n own p c k e = rw e
+
+pub step-ok : (n own : ℕ) (p : History) (c : Call) → refusal n p c ≡ none → step n own p c ≡ accepted n own p c
+unfolding step
+step-ok n own p c e = rw e
+
+pub step-cases : (n own : ℕ) (p : History) (c : Call)
+    → (step n own p c ≡ p) ⊎ ((refusal n p c ≡ none) × (step n own p c ≡ accepted n own p c))
+step-cases n own p c = go (refusal n p c) refl
+  where
+    go : (r : Option ℕ) → refusal n p c ≡ r → (step n own p c ≡ p) ⊎ ((refusal n p c ≡ none) × (step n own p c ≡ accepted n own p c))
+    go none e = inr (e, step-ok n own p c e)
+    go (some k) e = inl (step-refused n own p c k e)
+
+-- ---- what it takes not to be refused
+
+-- one cause in a row of them
+pub pick-none : (t : Bool) (k : ℕ) (o : Option ℕ) → pick t (some k) o ≡ none → (t ≡ false) × (o ≡ none)
+pick-none true k o e = absurd (Option·some-ne-none k e)
+pick-none false k o e = (refl, e)
+
+not-false : (t : Bool) → not t ≡ false → t ≡ true
+not-false true e = refl
+not-false false e = absurd (false≢true (sym e))
+
+pub begin-ok : (n : ℕ) (p : History) (b : ℕ) → refusal n p (begin b) ≡ none → (b ≤ lastBeat) × (notAbove b (p .last) ≡ false)
+unfolding refusal
+begin-ok n p b e =
+    let x = pick-none (ltb lastBeat b) 10 (pick (notAbove b (p .last)) (some 20) none) e in
+    (ltb-false lastBeat b (x .0), pick-none (notAbove b (p .last)) 20 none (x .1) .0)
+
+pub act-ok : (n : ℕ) (p : History) (block : Block) (priority : ℕ) (out : List ℕ)
+    → refusal n p (act block priority out) ≡ none → (mostBytes ≤ length out) × (p .gathering ≡ true)
+unfolding refusal
+act-ok n p block priority out e =
+    let x = pick-none (ltb (length out) mostBytes) 11 (pick (not (p .gathering)) (some 22) none) e in
+    (ltb-false (length out) mostBytes (x .0), not-false (p .gathering) (pick-none (not (p .gathering)) 22 none (x .1) .0))
+
+-- a message that is taken
+pub record Receives (n : ℕ) (p : History) (bytes : List ℕ) : Type 0 where
+  pub message : Meaning
+  pub read : readOf n bytes ≡ means message
+  pub gathering : p .gathering ≡ true
+  pub inWindow : openTo message (beatNow p) ≡ true
+
+pub receive-ok : (n : ℕ) (p : History) (bytes : List ℕ) → refusal n p (receive bytes) ≡ none → Receives n p bytes
+unfolding refusal
+receive-ok n p bytes e =
+    let x = pick-none (not (p .gathering)) 22 (readingRefusal (beatNow p) (readOf n bytes)) e in
+    go (readOf n bytes) refl (x .1) (not-false (p .gathering) (x .0))
+  where
+    go : (r : Reading) → readOf n bytes ≡ r → readingRefusal (beatNow p) r ≡ none → p .gathering ≡ true → Receives n p bytes
+    go (unread k) q h g = absurd (Option·some-ne-none k h)
+    go (means m) q h g =
+        record { message = m; read = q; gathering = g; inWindow = not-false (openTo m (beatNow p)) (pick-none (not (openTo m (beatNow p))) 21 none h .0) }
+
+pub receive-refusal : (n : ℕ) (p : History) (bytes : List ℕ) (m : Meaning)
+    → readOf n bytes ≡ means m → p .gathering ≡ true → openTo m (beatNow p) ≡ true → refusal n p (receive bytes) ≡ none
+unfolding refusal
+receive-refusal n p bytes m q g w = rw (g, q, w)
+
+-- ---- the word answered to a message taken
+
+pub taken-reply : (n own : ℕ) (p : History) (bytes : List ℕ) (m : Meaning) → refusal n p (receive bytes) ≡ none → readOf n bytes ≡ means m
+    → answer n own p (receive bytes) .reply ≡ took (wordFor p m)
+unfolding answer acceptedAnswer
+taken-reply n own p bytes m ok r =
+    let a : answer n own p (receive bytes) ≡ acceptedAnswer n own p (receive bytes) = rw ok in
+    ap (λ (x : Answer). x .reply) a ∙ ap (wordRead p) r
+
+pub took-injective : (v w : Word) → took v ≡ took w → v ≡ w
+took-injective v w e = cc
+
+-- ---- what filing leaves as it is
+
+pub file-last : (p : History) (m : Meaning) → file p m .last ≡ p .last
+unfolding file
+file-last p (logMessage h) = refl
+file-last p (proposalMessage h k) = refl
+
+pub file-gathering : (p : History) (m : Meaning) → file p m .gathering ≡ p .gathering
+unfolding file
+file-gathering p (logMessage h) = refl
+file-gathering p (proposalMessage h k) = refl
+
+pub file-actions : (p : History) (m : Meaning) → file p m .actions ≡ p .actions
+unfolding file
+file-actions p (logMessage h) = refl
+file-actions p (proposalMessage h k) = refl
+
+-- what was heard stays
+pub file-heard : (p : History) (m : Meaning) (h : Content) → Mem h (p .heard) → Mem h (file p m .heard)
+unfolding file
+file-heard p (logMessage k) h i = List·Memᴰ·tail i
+file-heard p (proposalMessage k r) h i = i
+
+pub made-last : (p : History) (o : Option Meaning) → fileMade p o .last ≡ p .last
+made-last p none = refl
+made-last p (some m) = file-last p m
+
+pub made-gathering : (p : History) (o : Option Meaning) → fileMade p o .gathering ≡ p .gathering
+made-gathering p none = refl
+made-gathering p (some m) = file-gathering p m
+
+pub made-actions : (p : History) (o : Option Meaning) → fileMade p o .actions ≡ p .actions
+made-actions p none = refl
+made-actions p (some m) = file-actions p m
+
+pub made-heard : (p : History) (o : Option Meaning) (h : Content) → Mem h (p .heard) → Mem h (fileMade p o .heard)
+made-heard p none h i = i
+made-heard p (some m) h i = file-heard p m h i
+
+-- ---- an accepted call
+
+pub accepted-receive : (n own : ℕ) (p : History) (bytes : List ℕ) (m : Meaning) → readOf n bytes ≡ means m → accepted n own p (receive bytes) ≡ file p m
+unfolding accepted
+accepted-receive n own p bytes m e = rw e
+
+pub accepted-act : (n own : ℕ) (p : History) (block : Block) (priority : ℕ) (out : List ℕ)
+    → accepted n own p (act block priority out) ≡ fileMade (closed p (madeBy n own p block priority) (decidedBy n p)) (madeBy n own p block priority)
+unfolding accepted
+accepted-act n own p block priority out = refl
+
+-- what is recorded of an act
+abbrev pub recordOf : (n own : ℕ) → History → Block → ℕ → ActRecord
+recordOf n own p block priority =
+    record { beat = beatNow p; heard = p .heard; made = madeBy n own p block priority; decided = decidedBy n p }
+
+pub accepted-actions-act : (n own : ℕ) (p : History) (block : Block) (priority : ℕ) (out : List ℕ)
+    → accepted n own p (act block priority out) .actions ≡ recordOf n own p block priority ∷ p .actions
+accepted-actions-act n own p block priority out =
+    let m = madeBy n own p block priority in
+    ap (λ (q : History). q .actions) (accepted-act n own p block priority out) ∙ made-actions (closed p m (decidedBy n p)) m
+
+pub accepted-actions-receive : (n own : ℕ) (p : History) (bytes : List ℕ) → refusal n p (receive bytes) ≡ none
+    → accepted n own p (receive bytes) .actions ≡ p .actions
+accepted-actions-receive n own p bytes ok =
+    let r = receive-ok n p bytes ok in
+    ap (λ (q : History). q .actions) (accepted-receive n own p bytes (r .message) (r .read)) ∙ file-actions p (r .message)

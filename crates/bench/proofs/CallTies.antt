@@ -1,0 +1,211 @@
+-- Open, Begin and Receive: the record does what the history says, answers what it answers, and stays tied to it. Assumes nothing.
+use Prim.Native.Nat.{ℕ, zero, suc, _+_, _-_, _^_, _≤_, _<_}
+use native.Mathlib.Omega.{arith}
+use mathlib.Core.Bool.{Bool, true, false, not, _||_, false≢true}
+use mathlib.Core.List.{List, [], List·Memᴰ·not-nil}
+use mathlib.Core.Option.{some, none, Option·none-ne-some}
+use mathlib.Core.Path.{_≡_, refl, sym, ap, subst, _∙_}
+use borrow.Author.Tests.{eqb-true, ne-eqb, ltb-false, leb-true, leb-false, lt-ltb, le-ltb}
+use lib.Dec.{eqb, leb, ltb}
+use lib.ListN.{length}
+use Rattle.message.specs.Numbers.{AllBelow}
+use Rattle.message.specs.Message.{Content, Meaning, logOf, Reading, refused as unread, means, readOf}
+use Rattle.message.proofs.TestLaws.{either, or-false}
+use Rattle.message.proofs.ListedLaws.{log-empty}
+use Rattle.message.proofs.Acceptance.{accepted as read-accepted, said-in}
+use Rattle.message.proofs.Codec.{read-writable}
+use Rattle.message.proofs.Inside.{holds-accepted}
+use Rattle.agreement.specs.Record.{emptyAgreement}
+use Rattle.agreement.specs.Proposals.{emptyProposals}
+use Rattle.agreement.specs.declared.Agreement.{Agreement}
+use Rattle.agreement.specs.declared.Proposals.{Proposals}
+use Rattle.bench.specs.Layout.{isEven, decidedPlace, leastLent, Lent, tooShort, outOfRange}
+use Rattle.bench.specs.Calendar.{lastBeat}
+use Rattle.bench.specs.Calls.{Call, begin, receive, refused, took, Step, openTo}
+use Rattle.bench.specs.History.{History, fresh, orZero, beatNow, notAbove, refusal, wordFor, accepted, answer, acceptedAnswer, step, standIn}
+use Rattle.bench.specs.Record.{freshBench, agreementOf, proposalsOf, beatOf, notAboveLast, idle, beyond}
+use Rattle.bench.specs.ByRecord.{State, refuse, begun, beginOf, fileMessage, taken, receives, receiveOf}
+use Rattle.bench.specs.declared.Bench.{Bench}
+use Rattle.bench.proofs.Fine.{not-beyond}
+use Rattle.bench.proofs.FineBench.{fresh-fine, begun-fine}
+use Rattle.bench.proofs.Slots.{empty-of-view, begun-open, begun-proposals-open}
+use Rattle.bench.proofs.GoodHistory.{fresh-good}
+use Rattle.bench.proofs.Ties.{Holds, HoldsProposals, Since, lastOf, Tie}
+use Rattle.bench.proofs.Filling.{holds-same, empty-holds, empty-proposals-holds}
+use Rattle.bench.proofs.FilingTies.{Carries, file-tie}
+
+-- What a call of the record has to do with the history's: the same answer; tied afterwards; and a refusal leaves record and lists.
+pub record Agrees (n own : ℕ) (s : State) (p : History) (c : Call) (r : Step Bench) : Type 0 where
+  pub answered : r .answer ≡ answer n own p c
+  pub tied : Tie n own (r .held) (step n own p c)
+  pub left : (k : ℕ) → refusal n p c ≡ some k → r .held ≡ s
+
+module _ (n own : ℕ) (s : State) (p : History) (t : Tie n own s p) (c : Call) where
+  -- both refuse
+  pub both-refuse : (out : List ℕ) (k : ℕ) → refusal n p c ≡ some k → answer n own p c ≡ record { reply = refused k; out = out } → Agrees n own s p c (refuse s out k)
+  unfolding step
+  both-refuse out k e a = record { answered = sym a; tied = rw e t; left = λ j f. refl }
+
+  -- both accept
+  pub both-accept : (r : Step Bench) → refusal n p c ≡ none → r .answer ≡ acceptedAnswer n own p c → Tie n own (r .held) (accepted n own p c) → Agrees n own s p c r
+  unfolding step answer
+  both-accept r e a h = record { answered = rw e a; tied = rw e h; left = λ k f. absurd (Option·none-ne-some _ (sym e ∙ f)) }
+
+-- no record tied to a history is beyond its limits or has lists too short
+module _ {n own : ℕ} {s : State} {p : History} (t : Tie n own s p) where
+  pub in-limits : beyond (s .bench) ≡ false
+  in-limits = not-beyond (s .bench) (t .fine)
+
+  pub long-lists : tooShort (s .lent) ≡ false
+  long-lists = rw (le-ltb (length (s .lent .names)) leastLent (t .roomy .names), le-ltb (length (s .lent .counts)) leastLent (t .roomy .counts))
+
+  -- the beat, and whether a gathering is under way
+  pub beat-is : beatOf (s .bench) ≡ beatNow p
+  beat-is = go (s .bench .next) (t .last-is)
+    where
+      go : (next : ℕ) → lastOf next ≡ p .last → next - 1 ≡ beatNow p
+      go zero e = ap orZero e
+      go (suc b) e = let a : suc b - 1 ≡ b = omega arith in a ∙ ap orZero e
+
+  pub started : p .gathering ≡ true → 0 < s .bench .next
+  started g = go (s .bench .next) (t .gathering-is ∙ g)
+    where
+      go : (next : ℕ) → not (not (s .bench .gathering) || eqb next 0) ≡ true → 0 < next
+      go zero e = absurd (no (s .bench .gathering) e)
+        where
+          no : (a : Bool) → not (not a || true) ≡ true → ⊥
+          no true f = false≢true f
+          no false f = false≢true f
+      go (suc b) e = omega arith
+
+-- ---- Begin
+
+-- both tell in the same way whether a beat is above the last begun
+above-last : (s : Bench) (beat : ℕ) → notAboveLast s beat ≡ notAbove beat (lastOf (s .next))
+above-last s beat = go (s .next)
+  where
+    go : (next : ℕ) → ltb beat next ≡ notAbove beat (lastOf next)
+    go zero = le-ltb beat 0 (omega arith)
+    go (suc last) =
+        either (leb beat last)
+        (λ e. let l = leb-true beat last e in lt-ltb beat (suc last) (omega arith) ∙ sym e)
+        (λ e. let l = leb-false beat last e in le-ltb beat (suc last) (omega arith) ∙ sym e)
+
+module _ (n own : ℕ) (s : State) (p : History) (t : Tie n own s p) (beat : ℕ) where
+  begun-tie : beat ≤ lastBeat → s .bench .next ≤ beat → Tie n own (begun s beat .held) (accepted n own p (begin beat))
+  unfolding accepted
+  begun-tie low above = record {
+    n-is = t .n-is;
+    own-is = t .own-is;
+    fine = begun-fine (s .bench) (t .fine) beat low;
+    roomy = t .roomy;
+    last-is = let e : beat + 1 ≡ suc beat = omega arith in ap lastOf e;
+    gathering-is = let e : eqb (beat + 1) 0 ≡ false = ne-eqb (beat + 1) 0 (λ z. omega arith) in ap not e;
+    filled =
+        record {
+          views = λ v i o.
+              subst (λ (g : Agreement). Holds (s .lent) g (accepted n own p (begin beat)) v) (sym (begun-open (s .bench) beat v (omega arith)))
+              (holds-same (record { logs = λ j. refl; one = refl; two = refl }) (t .filled .views v i (omega arith)));
+          proposals = λ v i o.
+              subst (λ (g : Proposals). HoldsProposals (s .lent) g (accepted n own p (begin beat)) v) (sym (begun-proposals-open (s .bench) beat v (omega arith)))
+              (t .filled .proposals v i (omega arith));
+          since =
+              record {
+                logs = λ m i. let l = t .filled .since .logs m i in omega arith;
+                proposals = λ m i. let l = t .filled .since .proposals m i in omega arith;
+                acts = λ d i. let l = t .filled .since .acts d i in omega arith;
+              };
+        };
+    stand-is = t .stand-is;
+    good = record { heard = t .good .heard; proposals = t .good .proposals; priorities = t .good .priorities };
+  }
+
+  pub begin-agrees : Agrees n own s p (begin beat) (beginOf s beat)
+  unfolding beginOf refusal answer acceptedAnswer
+  begin-agrees =
+      let above = above-last (s .bench) beat ∙ ap (notAbove beat) (t .last-is) in
+      either (ltb lastBeat beat)
+      (λ e. rw (in-limits t, long-lists t, e) (both-refuse n own s p t (begin beat) [] 10 (rw e) (rw e)))
+      (λ e. either (notAboveLast (s .bench) beat)
+      (λ f.
+      let g : notAbove beat (p .last) ≡ true = sym above ∙ f in
+      rw (in-limits t, long-lists t, e, f) (both-refuse n own s p t (begin beat) [] 20 (rw (e, g)) (rw (e, g))))
+      (λ f.
+      let g : notAbove beat (p .last) ≡ false = sym above ∙ f in
+      rw (in-limits t, long-lists t, e, f)
+      (both-accept n own s p t (begin beat) (begun s beat) (rw (e, g)) refl (begun-tie (ltb-false lastBeat beat e) (ltb-false beat (s .bench .next) f)))))
+
+-- ---- Receive
+
+-- an accepted message's bytes carry its log
+pub carries-read : (n : ℕ) (bytes : List ℕ) (m : Meaning) → readOf n bytes ≡ means m → Carries bytes (logOf m)
+carries-read n bytes m e = record {
+  holds = holds-accepted n bytes m e;
+  log = ap (λ (x : Content). x .log) (sym (said-in bytes)) ∙ ap (λ (x : Meaning). logOf x) (read-accepted n bytes m e .1);
+}
+
+module _ (n own : ℕ) (s : State) (p : History) (t : Tie n own s p) (bytes : List ℕ) (typed : AllBelow 256 bytes) where
+  -- once a gathering is under way
+  reading-agrees : p .gathering ≡ true → (r : Reading) → readOf n bytes ≡ r → Agrees n own s p (receive bytes) (receives s bytes r)
+  unfolding refusal answer acceptedAnswer accepted
+  reading-agrees g (unread k) e = both-refuse n own s p t (receive bytes) [] k (rw (g, e)) (rw (g, e))
+  reading-agrees g (means m) e =
+      either (openTo m (beatOf (s .bench)))
+      (λ w.
+      let w′ : openTo m (beatNow p) ≡ true = ap (openTo m) (sym (beat-is t)) ∙ w in
+      let x = file-tie n own s p t bytes (started t g) m (read-writable n bytes m typed e) (carries-read n bytes m e) w in
+      let word : took (fileMessage s bytes m .word) ≡ took (wordFor p m) = ap took (x .0) in
+      rw w
+      (both-accept n own s p t (receive bytes) (taken (fileMessage s bytes m)) (rw (g, e, w′)) (rw e (λ i. record { reply = word i; out = [] })) (rw e (x .1))))
+      (λ w.
+      let w′ : openTo m (beatNow p) ≡ false = ap (openTo m) (sym (beat-is t)) ∙ w in
+      rw w (both-refuse n own s p t (receive bytes) [] 21 (rw (g, e, w′)) (rw (g, e, w′))))
+
+  pub receive-agrees : Agrees n own s p (receive bytes) (receiveOf s bytes)
+  unfolding receiveOf refusal answer
+  receive-agrees =
+      either (idle (s .bench))
+      (λ i.
+      let g : p .gathering ≡ false = sym (t .gathering-is) ∙ ap not i in
+      rw (in-limits t, long-lists t, i) (both-refuse n own s p t (receive bytes) [] 22 (rw g) (rw g)))
+      (λ i.
+      let g : p .gathering ≡ true = sym (t .gathering-is) ∙ ap not i in
+      rw (in-limits t, long-lists t, i)
+      (subst (λ (k : ℕ). Agrees n own s p (receive bytes) (receives s bytes (readOf k bytes))) (sym (t .n-is)) (reading-agrees g (readOf n bytes) refl)))
+
+-- ---- Open
+
+pub open-tie : (n own : ℕ) (l : Lent) → outOfRange n own ≡ false → tooShort l ≡ false → AllBelow (2 ^ 64) (l .names) → AllBelow (2 ^ 16) (l .counts)
+    → Tie n own (record { bench = freshBench n own; lent = l }) fresh
+unfolding standIn agreementOf proposalsOf
+open-tie n own l r h names counts =
+    let long = or-false (ltb (length (l .names)) leastLent) (ltb (length (l .counts)) leastLent) h in
+    let since : Since 0 fresh = record { logs = λ m i. absurd (List·Memᴰ·not-nil i); proposals = λ m i. absurd (List·Memᴰ·not-nil i); acts = λ d i. absurd (List·Memᴰ·not-nil i) } in
+    record {
+      n-is = refl;
+      own-is = refl;
+      fine = fresh-fine n own r;
+      roomy =
+          record {
+            names = ltb-false (length (l .names)) leastLent (long .0);
+            counts = ltb-false (length (l .counts)) leastLent (long .1);
+            name-bound = names;
+            count-bound = counts;
+          };
+      last-is = refl;
+      gathering-is = refl;
+      filled =
+          record {
+            views = λ v i o. subst (λ (g : Agreement). Holds l g fresh v) (sym (fresh-agreement v)) (empty-holds since v l (omega arith));
+            proposals = λ v i o. subst (λ (g : Proposals). HoldsProposals l g fresh v) (sym (fresh-proposals v)) (empty-proposals-holds since v l (omega arith));
+            since = since;
+          };
+      stand-is = let e = log-empty (l .names) (l .counts) decidedPlace 0 (omega arith) in λ i. record { log = e i; parted = false };
+      good = fresh-good n;
+    }
+  where
+    fresh-agreement : (v : ℕ) → agreementOf (freshBench n own) v ≡ emptyAgreement v
+    fresh-agreement v = either (isEven v) (λ e. rw e (empty-of-view 0 v)) (λ e. rw e (empty-of-view 0 v))
+
+    fresh-proposals : (v : ℕ) → proposalsOf (freshBench n own) v ≡ emptyProposals v
+    fresh-proposals v = either (eqb 0 v) (λ e. rw e (ap emptyProposals (eqb-true 0 v e))) (λ e. rw e)

@@ -1,0 +1,222 @@
+-- An agreement stays within its limits: with nothing filed, after each change of it, and so after filing. Its arrays keep their 32 places
+-- (`sized`). Assumes nothing.
+use Prim.Native.Nat.{ℕ, zero, suc, _≤_, _<_}
+use native.Mathlib.Decide.{decLe}
+use native.Mathlib.Omega.{arith}
+use mathlib.Core.Bool.{Bool, true, false, _&&_, _||_, false≢true}
+use mathlib.Core.List.{List}
+use mathlib.Core.Path.{_≡_, refl, sym, subst, _∙_}
+use borrow.Author.Tests.{eqb-true, eqb-false}
+use lib.Dec.{eqb}
+use lib.ListN.{getD, set, replicate, length-set, length-replicate}
+use lib.Seq.{getD-set-same, getD-set-other}
+use Rattle.message.specs.Limits.{mostBlocks, lastView}
+use Rattle.message.specs.Logs.{sameLog}
+use Rattle.message.specs.Message.{countIn, logIn}
+use Rattle.message.proofs.TestLaws.{either, or-false}
+use Rattle.agreement.specs.Limits.{mostSenders}
+use Rattle.agreement.specs.Sets.{member}
+use Rattle.agreement.specs.Record.{emptyAgreement, isVoter, isEquivocator, isSender, filedLog, withFirst, withSecond, withOne, withTwo}
+use Rattle.agreement.specs.Filing.{Fit, unfit, fileOf}
+use Rattle.agreement.specs.declared.Agreement.{Agreement}
+use Rattle.agreement.proofs.FilingLaws.{fit, few-blocks}
+use Rattle.bench.proofs.Fine.{FineSender, FineAgreement, nothing-fine}
+
+-- ---- nothing filed
+
+pub getD-all : {A : Type 0} (m i : ℕ) (a : A) → getD (replicate m a) i a ≡ a
+getD-all zero i a = refl
+getD-all (suc m) zero a = refl
+getD-all (suc m) (suc i) a = getD-all m i a
+
+pub empty-fine : (n v : ℕ) → v ≤ lastView → FineAgreement n (emptyAgreement v)
+empty-fine n v h = record {
+  view = h;
+  sender = λ i. nothing-fine n i _ _ _ _ _ (getD-all mostSenders i 0) (getD-all mostSenders i false) (getD-all mostSenders i false) (getD-all mostSenders i false) (getD-all mostSenders i false);
+  sized = record {
+    filed = record { lengths = length-replicate {A = ℕ} mostSenders 0; voters = length-replicate mostSenders false; equivocators = length-replicate mostSenders false };
+    one = length-replicate mostSenders false;
+    two = length-replicate mostSenders false;
+  };
+}
+
+-- ---- cases
+
+-- place i, and every other
+pub at-place : (P : ℕ → Type 0) (i j : ℕ) → P i → ((j ≡ i → ⊥) → P j) → P j
+at-place P i j here else = either (eqb j i) (λ t. subst P (sym (eqb-true j i t)) here) (λ t. else (eqb-false j i t))
+
+-- by what filing finds: nothing to do; one filed before, and this is the same, or another; none
+pub cases : (A : Type 0) (q v e : Bool) → (q ≡ true → A) → (q ≡ false → v ≡ true → e ≡ true → A) → (q ≡ false → v ≡ true → e ≡ false → A)
+    → (q ≡ false → v ≡ false → A) → A
+cases A q v e f g h k = either q f (λ a. either v (λ b. either e (g a b) (h a b)) (k a))
+
+below : (n i : ℕ) (b : Bool) → (n ≤ i → b ≡ false) → b ≡ true → i < n
+below n i b f t = elim (decLe n i) [
+  | yes h ↦ absurd (false≢true (sym (f h) ∙ t))
+  | no h ↦ omega arith
+]
+
+or-left : (a b : Bool) → a ≡ true → (a || b) ≡ true
+or-left true b e = refl
+or-left false b e = absurd (false≢true e)
+
+-- ---- changes of an agreement
+
+-- a sender of one log
+voter-fine : (n i k : ℕ) (e one two : Bool) → i < n → k ≤ mostBlocks → e ≡ false → FineSender n i k true e one two
+voter-fine n i k e one two h l q = record {
+  short = l;
+  no-voter = λ x. absurd (omega arith);
+  no-equivocator = λ x. q;
+  not-in-one = λ x. absurd (omega arith);
+  not-in-two = λ x. absurd (omega arith);
+  apart = λ x. q;
+  one-heard = λ x. refl;
+  two-heard = λ x. refl;
+}
+
+-- a sender of two
+equivocator-fine : (n i k : ℕ) (one two : Bool) → i < n → k ≤ mostBlocks → FineSender n i k false true one two
+equivocator-fine n i k one two h l = record {
+  short = l;
+  no-voter = λ x. refl;
+  no-equivocator = λ x. absurd (omega arith);
+  not-in-one = λ x. absurd (omega arith);
+  not-in-two = λ x. absurd (omega arith);
+  apart = λ x. absurd (false≢true x);
+  one-heard = λ x. refl;
+  two-heard = λ x. refl;
+}
+
+module _ (n : ℕ) (g : Agreement) (f : FineAgreement n g) where
+  -- in V or in E, and so below n
+  pub voter-below : (i : ℕ) → isVoter g i ≡ true → i < n
+  voter-below i t = below n i (isVoter g i) (f .sender i .no-voter) t
+
+  pub equivocator-below : (i : ℕ) → isEquivocator g i ≡ true → i < n
+  equivocator-below i t = below n i (isEquivocator g i) (f .sender i .no-equivocator) t
+
+  -- from n on there is no sender, and no sender is in both V and E
+  pub no-sender : (i : ℕ) → n ≤ i → isSender g i ≡ false
+  no-sender i h = rw (f .sender i .no-voter h, f .sender i .no-equivocator h)
+
+  pub not-both : (i : ℕ) → (isVoter g i && isEquivocator g i) ≡ false
+  not-both i = either (isVoter g i) (λ t. rw (t, f .sender i .apart t)) (λ t. rw t)
+
+  module _ (i : ℕ) (room : i < mostSenders) (here : i < n) where
+    -- sender i's first log, where it is no equivocator
+    module _ (k : ℕ) (few : k ≤ mostBlocks) (e : isEquivocator g i ≡ false) where
+      abbrev FirstAt : ℕ → Type 0
+      FirstAt j =
+          FineSender n j (getD (set (g .lengths) i k) j 0) (getD (set (g .voters) i true) j false) (isEquivocator g j) (member (g .one) j) (member (g .two) j)
+
+      first-here : FirstAt i
+      first-here =
+          rw (
+            getD-set-same (g .lengths) i k 0 (omega (arith, f .sized .filed .lengths)),
+            getD-set-same (g .voters) i true false (omega (arith, f .sized .filed .voters)),
+          ) (voter-fine n i k (isEquivocator g i) (member (g .one) i) (member (g .two) i) here few e)
+
+      first-else : (j : ℕ) → (j ≡ i → ⊥) → FirstAt j
+      first-else j d = rw (getD-set-other (g .lengths) i j k 0 d, getD-set-other (g .voters) i j true false d) (f .sender j)
+
+      pub first-fine : FineAgreement n (withFirst g i k)
+      first-fine = record {
+        view = f .view;
+        sender = λ j. at-place FirstAt i j first-here (first-else j);
+        sized = record {
+          filed = record {
+            lengths = length-set (g .lengths) i k ∙ f .sized .filed .lengths;
+            voters = length-set (g .voters) i true ∙ f .sized .filed .voters;
+            equivocators = f .sized .filed .equivocators;
+          };
+          one = f .sized .one;
+          two = f .sized .two;
+        };
+      }
+
+    -- sender i's second log
+    abbrev SecondAt : ℕ → Type 0
+    SecondAt j =
+        FineSender n j (getD (g .lengths) j 0) (getD (set (g .voters) i false) j false) (getD (set (g .equivocators) i true) j false) (member (g .one) j) (member (g .two) j)
+
+    second-here : SecondAt i
+    second-here =
+        rw (
+          getD-set-same (g .voters) i false false (omega (arith, f .sized .filed .voters)),
+          getD-set-same (g .equivocators) i true false (omega (arith, f .sized .filed .equivocators)),
+        ) (equivocator-fine n i (getD (g .lengths) i 0) (member (g .one) i) (member (g .two) i) here (f .sender i .short))
+
+    second-else : (j : ℕ) → (j ≡ i → ⊥) → SecondAt j
+    second-else j d = rw (getD-set-other (g .voters) i j false false d, getD-set-other (g .equivocators) i j true false d) (f .sender j)
+
+    pub second-fine : FineAgreement n (withSecond g i)
+    second-fine = record {
+      view = f .view;
+      sender = λ j. at-place SecondAt i j second-here (second-else j);
+      sized = record {
+        filed = record {
+          lengths = f .sized .filed .lengths;
+          voters = length-set (g .voters) i false ∙ f .sized .filed .voters;
+          equivocators = length-set (g .equivocators) i true ∙ f .sized .filed .equivocators;
+        };
+        one = f .sized .one;
+        two = f .sized .two;
+      };
+    }
+
+  -- the snapshots
+  pub one-fine : FineAgreement n (withOne g)
+  one-fine = record {
+    view = f .view;
+    sender = λ i. record {
+      short = f .sender i .short;
+      no-voter = f .sender i .no-voter;
+      no-equivocator = f .sender i .no-equivocator;
+      not-in-one = f .sender i .no-voter;
+      not-in-two = f .sender i .not-in-two;
+      apart = f .sender i .apart;
+      one-heard = or-left (isVoter g i) (isEquivocator g i);
+      two-heard = f .sender i .two-heard;
+    };
+    sized = record {
+      filed = record { lengths = f .sized .filed .lengths; voters = f .sized .filed .voters; equivocators = f .sized .filed .equivocators };
+      one = f .sized .filed .voters;
+      two = f .sized .two;
+    };
+  }
+
+  pub two-fine : FineAgreement n (withTwo g)
+  two-fine = record {
+    view = f .view;
+    sender = λ i. record {
+      short = f .sender i .short;
+      no-voter = f .sender i .no-voter;
+      no-equivocator = f .sender i .no-equivocator;
+      not-in-one = f .sender i .not-in-one;
+      not-in-two = f .sender i .no-voter;
+      apart = f .sender i .apart;
+      one-heard = f .sender i .one-heard;
+      two-heard = or-left (isVoter g i) (isEquivocator g i);
+    };
+    sized = record {
+      filed = record { lengths = f .sized .filed .lengths; voters = f .sized .filed .voters; equivocators = f .sized .filed .equivocators };
+      one = f .sized .one;
+      two = f .sized .filed .voters;
+    };
+  }
+
+  -- filing a LOG from sender i, whatever the bytes: what holds no log is not filed
+  pub file-fine : (names counts : List ℕ) (base : ℕ) (s : List ℕ) (i : ℕ) → i < n → FineAgreement n (fileOf g names counts base s i .agreement)
+  unfolding fileOf
+  file-fine names counts base s i here =
+      cases (FineAgreement n (fileOf g names counts base s i .agreement))
+      (unfit names counts base s i || isEquivocator g i) (isVoter g i) (sameLog (logIn s) (filedLog names counts base (g .lengths) i))
+      (λ q. rw q f)
+      (λ q v e. rw (q, v, e) f)
+      (λ q v e. rw (q, v, e) (second-fine i (fits q .few) here))
+      (λ q v. rw (q, v) (first-fine i (fits q .few) here (countIn s) (few-blocks names counts base s i (fits q)) (or-false (unfit names counts base s i) _ q .1)))
+    where
+      fits : (unfit names counts base s i || isEquivocator g i) ≡ false → Fit names counts base s i
+      fits q = fit names counts base s i (or-false (unfit names counts base s i) _ q .0)

@@ -1,0 +1,258 @@
+-- Whatever a bench takes, makes or decides lies within the limits of the message. Assumes nothing.
+use Prim.Native.Nat.{ℕ, zero, suc, _^_, _≤_, _<_}
+use native.Mathlib.Omega.{arith}
+use mathlib.Core.Bool.{Bool, false, not, _||_, or-assoc, and-eq-true-iff}
+use mathlib.Core.List.{List, [], _∷_, _++_, List·Memᴰ, List·Memᴰ·cases-cons, List·Memᴰ·not-nil}
+use mathlib.Core.Logic.{inl, inr, _≢_}
+use mathlib.Core.Option.{Option, some, none, Option·none-ne-some, Option·some-injective}
+use mathlib.Core.Path.{_≡_, refl, sym, ap, subst, _∙_}
+use borrow.Author.Tests.{ltb-true, leb-true, eqb-false, ne-eqb, not-true}
+use lib.Dec.{eqb, ltb}
+use lib.ListN.{length, length-append}
+use Rattle.message.specs.Limits.{mostBlocks, lastView}
+use Rattle.message.specs.Choice.{some as someOf}
+use Rattle.message.specs.Numbers.{AllBelow}
+use Rattle.message.specs.Logs.{Block, Log, Prefix, namesOf, countsOf}
+use Rattle.message.specs.Message.{Content, Meaning, logMessage, proposalMessage, anyZero, Reading, refused, means, readOf, Writable, WritableMeaning}
+use Rattle.message.proofs.TestLaws.{either, or-false}
+use Rattle.message.proofs.LogLaws.{prefix-iff, names-append, counts-append}
+use Rattle.message.proofs.PartLaws.{append-below}
+use Rattle.message.proofs.Codec.{read-writable}
+use Rattle.agreement.specs.Heard.{heardLogs, ProposalHeard, heardProposals, voteAmong}
+use Rattle.agreement.proofs.GradeSources.{GradeSource, gradeNow-source, gradeWith-source, heard-source, vote-from, proposed-source}
+use Rattle.bench.specs.Calendar.{viewOf, placeIn, Act, proposing, voting, deciding, looking, actAt}
+use Rattle.bench.specs.Calls.{Call, begin, receive, act, Typed, AllTyped}
+use Rattle.bench.specs.Acts.{mayPropose, propose, vote, isView, inViews, makes, decides}
+use Rattle.bench.specs.History.{History, fresh, beatNow, refusal, file, candidateAt, lockAt, decisionAt, seenAt, madeBy, decidedBy, fileRead, fileMade, closed, accepted, orAccepted, step, afterFrom, after}
+
+-- every message taken or made is within the limits
+pub record GoodHistory (n : ℕ) (p : History) : Type 0 where
+  pub heard : (m : Content) → List·Memᴰ m (p .heard) → Writable n m
+  pub proposals : (o : ProposalHeard) → List·Memᴰ o (p .proposals) → Writable n (o .content)
+  pub priorities : (o : ProposalHeard) → List·Memᴰ o (p .proposals) → o .priority < 2 ^ 64
+
+-- ---- logs within the limits
+
+pub record GoodLog (L : Log) : Type 0 where
+  pub short : length L ≤ mostBlocks
+  pub named : anyZero (namesOf L) ≡ false
+  pub names : AllBelow (2 ^ 64) (namesOf L)
+  pub counts : AllBelow (2 ^ 16) (countsOf L)
+
+pub writable-log : {n : ℕ} {m : Content} → Writable n m → GoodLog (m .log)
+writable-log w = record { short = w .short; named = w .named; names = w .names; counts = w .counts }
+
+pub log-writable : {n sender view : ℕ} {L : Log} → sender < n → view ≤ lastView → GoodLog L
+    → Writable n (record { sender = sender; view = view; log = L })
+log-writable s v g = record { sender = s; view = v; short = g .short; named = g .named; names = g .names; counts = g .counts }
+
+pub empty-good : GoodLog []
+unfolding someOf namesOf countsOf
+empty-good = record { short = omega arith; named = refl; names = λ i. omega arith; counts = λ i. omega arith }
+
+some-append : (p : ℕ → Bool) (xs ys : List ℕ) → someOf p (xs ++ ys) ≡ (someOf p xs || someOf p ys)
+unfolding someOf
+some-append p [] ys = refl
+some-append p (x ∷ xs) ys = ap (λ (t : Bool). p x || t) (some-append p xs ys) ∙ sym (or-assoc (p x) (someOf p xs) (someOf p ys))
+
+below-front : (B : ℕ) (xs ys : List ℕ) → 0 < B → AllBelow B (xs ++ ys) → AllBelow B xs
+below-front B [] ys z h i = z
+below-front B (x ∷ xs) ys z h zero = h 0
+below-front B (x ∷ xs) ys z h (suc i) = below-front B xs ys z (λ j. h (suc j)) i
+
+front-good : (P t : Log) → GoodLog (P ++ t) → GoodLog P
+front-good P t g =
+    let l = length-append P t in
+    let s = g .short in
+    let z = sym (some-append (λ name. eqb name 0) (namesOf P) (namesOf t)) ∙ ap anyZero (sym (names-append P t)) ∙ g .named in
+    record {
+      short = omega arith;
+      named = or-false (anyZero (namesOf P)) (anyZero (namesOf t)) z .0;
+      names = below-front (2 ^ 64) (namesOf P) (namesOf t) (omega arith) (subst (AllBelow (2 ^ 64)) (names-append P t) (g .names));
+      counts = below-front (2 ^ 16) (countsOf P) (countsOf t) (omega arith) (subst (AllBelow (2 ^ 16)) (counts-append P t) (g .counts));
+    }
+
+-- with a log, its prefixes
+pub prefix-good : {P Q : Log} → Prefix P Q → GoodLog Q → GoodLog P
+prefix-good {P} {Q} h g = let t = prefix-iff P Q .0 h in front-good P (t .0) (subst GoodLog (sym (t .1)) g)
+
+-- and one block more, where there is room
+pub append-good : (L : Log) (b : Block) → length L < mostBlocks → b .name ≢ 0 → b .name < 2 ^ 64 → b .count < 2 ^ 16
+    → GoodLog L → GoodLog (L ++ (b ∷ []))
+unfolding someOf namesOf countsOf
+append-good L b s z n c g =
+    let l = length-append L (b ∷ []) in
+    record {
+      short = omega arith;
+      named =
+          ap anyZero (names-append L (b ∷ [])) ∙ some-append (λ name. eqb name 0) (namesOf L) (b .name ∷ [])
+          ∙ rw (g .named, ne-eqb (b .name) 0 z) refl;
+      names =
+          subst (AllBelow (2 ^ 64)) (sym (names-append L (b ∷ [])))
+          (append-below (2 ^ 64) (namesOf L) (b .name ∷ []) (g .names) (one (2 ^ 64) (b .name) (omega arith) n));
+      counts =
+          subst (AllBelow (2 ^ 16)) (sym (counts-append L (b ∷ [])))
+          (append-below (2 ^ 16) (countsOf L) (b .count ∷ []) (g .counts) (one (2 ^ 16) (b .count) (omega arith) c));
+    }
+  where
+    one : (B x : ℕ) → 0 < B → x < B → AllBelow B (x ∷ [])
+    one B x z h zero = h
+    one B x z h (suc i) = z
+
+-- ---- what an act sees
+
+module _ (n : ℕ) (p : History) (g : GoodHistory n p) where
+  -- a log with a grade is a prefix of one heard
+  graded-good : (u : ℕ) (L : Log) → GradeSource n (heardLogs (p .heard) u) L → GoodLog L
+  graded-good u L s =
+      let m = heard-source (p .heard) u (s .sender) (s .log) (s .kept) in
+      prefix-good (s .extends) (subst GoodLog (m .log) (writable-log (g .heard (m .message) (m .among))))
+
+  pub candidate-good : (v : ℕ) (L : Log) → candidateAt n p v ≡ some L → GoodLog L
+  unfolding candidateAt
+  candidate-good zero L e = subst GoodLog (Option·some-injective [] L e) empty-good
+  candidate-good (suc u) L e = graded-good u L (gradeNow-source n (heardLogs (p .heard) u) L e)
+
+  pub lock-good : (v : ℕ) (L : Log) → lockAt n p v ≡ some L → GoodLog L
+  unfolding lockAt
+  lock-good zero L e = subst GoodLog (Option·some-injective [] L e) empty-good
+  lock-good (suc u) L e =
+      graded-good u L (gradeWith-source n (heardLogs (p .heard) u) _ L e)
+
+  pub decision-good : (v : ℕ) (L : Log) → decisionAt n p v ≡ some L → GoodLog L
+  unfolding decisionAt
+  decision-good zero L e = absurd (Option·none-ne-some L e)
+  decision-good (suc u) L e =
+      graded-good u L (gradeWith-source n (heardLogs (p .heard) u) _ L e)
+
+  -- a vote is the lock, or a proposal heard
+  pub vote-good : (v : ℕ) (L : Log) → GoodLog L → GoodLog (voteAmong n (heardProposals (p .proposals) v) L)
+  vote-good v L l = elim (vote-from n (heardProposals (p .proposals) v) L) [
+    | inl e ↦ rw e l
+    | inr s ↦
+        let m = proposed-source (p .proposals) v (s .sender) (s .proposal) (s .its) in
+        rw (s .voted) (subst GoodLog (m .log) (writable-log (g .proposals (m .message) (m .among))))
+  ]
+
+  -- ---- what it decides
+
+  pub decided-good : (L : Log) → decidedBy n p ≡ some L → GoodLog L
+  unfolding decidedBy
+  decided-good L e = go (actAt (placeIn (beatNow p))) e
+    where
+      go : (a : Act) → decides (seenAt n p (viewOf (beatNow p))) a ≡ some L → GoodLog L
+      go proposing q = absurd (Option·none-ne-some L q)
+      go voting q = absurd (Option·none-ne-some L q)
+      go deciding q = decision-good (viewOf (beatNow p)) L q
+      go looking q = absurd (Option·none-ne-some L q)
+
+-- ---- what it makes
+
+abbrev GoodMade : ℕ → Option Meaning → Type 0
+GoodMade n none = Unit {0}
+GoodMade n (some m) = WritableMeaning n m
+
+module _ (n own : ℕ) (block : Block) (priority : ℕ)
+    (lo : own < n) (ln : block .name < 2 ^ 64) (lc : block .count < 2 ^ 16) (lp : priority < 2 ^ 64) where
+  propose-good : (v : ℕ) (o : Option Log) → v ≤ lastView → ((L : Log) → o ≡ some L → GoodLog L) → GoodMade n (propose own v block priority o)
+  unfolding propose
+  propose-good v none lv c = tt
+  propose-good v (some C) lv c =
+      either (mayPropose block C)
+      (λ e.
+      let t = and-eq-true-iff (not (eqb (block .name) 0)) (ltb (length C) mostBlocks) .0 e in
+      let z = eqb-false (block .name) 0 (not-true (eqb (block .name) 0) (t .0)) in
+      rw e (log-writable lo lv (append-good C block (ltb-true (length C) mostBlocks (t .1)) z ln lc (c C refl)), lp))
+      (λ e. rw e tt)
+
+  votes-good : (v : ℕ) (choose : Log → Log) (o : Option Log) → v ≤ lastView → ((L : Log) → o ≡ some L → GoodLog (choose L))
+      → GoodMade n (vote own v choose o)
+  unfolding vote
+  votes-good v choose none lv c = tt
+  votes-good v choose (some L) lv c = log-writable lo lv (c L refl)
+
+  inViews-good : (v : ℕ) (o : Option Meaning) → (v ≤ lastView → GoodMade n o) → GoodMade n (inViews v o)
+  inViews-good v o h = either (isView v) (λ t. rw t (h (leb-true v lastView t))) (λ t. rw t tt)
+
+  module _ (p : History) (g : GoodHistory n p) where
+    makes-good : (v : ℕ) (a : Act) → GoodMade n (makes own v block priority (seenAt n p v) a)
+    unfolding makes
+    makes-good v proposing =
+        inViews-good v (propose own v block priority (candidateAt n p v)) (λ lv. propose-good v (candidateAt n p v) lv (candidate-good n p g v))
+    makes-good v voting =
+        inViews-good v (vote own v (voteAmong n (heardProposals (p .proposals) v)) (lockAt n p v))
+        (λ lv. votes-good v (voteAmong n (heardProposals (p .proposals) v)) (lockAt n p v) lv (λ L e. vote-good n p g v L (lock-good n p g v L e)))
+    makes-good v deciding = tt
+    makes-good v looking = tt
+
+    made : GoodMade n (madeBy n own p block priority)
+    unfolding madeBy
+    made = makes-good (viewOf (beatNow p)) (actAt (placeIn (beatNow p)))
+
+    pub made-good : (m : Meaning) → madeBy n own p block priority ≡ some m → WritableMeaning n m
+    made-good m e = subst (GoodMade n) e made
+
+-- ---- along the calls
+
+pub fresh-good : (n : ℕ) → GoodHistory n fresh
+fresh-good n = record {
+  heard = λ m i. absurd (List·Memᴰ·not-nil i);
+  proposals = λ o i. absurd (List·Memᴰ·not-nil i);
+  priorities = λ o i. absurd (List·Memᴰ·not-nil i);
+}
+
+pub file-good : (n : ℕ) (p : History) (m : Meaning) → WritableMeaning n m → GoodHistory n p → GoodHistory n (file p m)
+unfolding file
+file-good n p (logMessage c) w g = record {
+  heard = λ m i. elim (List·Memᴰ·cases-cons i) [ inl e ↦ subst (Writable n) (sym e) w | inr j ↦ g .heard m j ];
+  proposals = g .proposals;
+  priorities = g .priorities;
+}
+file-good n p (proposalMessage c priority) w g = record {
+  heard = g .heard;
+  proposals = λ o i. elim (List·Memᴰ·cases-cons i) [
+    | inl e ↦ subst (λ (x : ProposalHeard). Writable n (x .content)) (sym e) (w .0)
+    | inr j ↦ g .proposals o j
+  ];
+  priorities = λ o i. elim (List·Memᴰ·cases-cons i) [
+    | inl e ↦ subst (λ (x : ProposalHeard). x .priority < 2 ^ 64) (sym e) (w .1)
+    | inr j ↦ g .priorities o j
+  ];
+}
+
+fileRead-good : (n : ℕ) (p : History) (r : Reading) → ((m : Meaning) → r ≡ means m → WritableMeaning n m) → GoodHistory n p
+    → GoodHistory n (fileRead p r)
+fileRead-good n p (refused k) w g = g
+fileRead-good n p (means m) w g = file-good n p m (w m refl) g
+
+fileMade-good : (n : ℕ) (p : History) (o : Option Meaning) → GoodMade n o → GoodHistory n p → GoodHistory n (fileMade p o)
+fileMade-good n p none w g = g
+fileMade-good n p (some m) w g = file-good n p m w g
+
+-- a call that is accepted; a message received is within the limits once it can be read
+pub good-accepted : (n own : ℕ) (p : History) (c : Call) → own < n → Typed c → GoodHistory n p → GoodHistory n (accepted n own p c)
+unfolding accepted
+good-accepted n own p (begin b) lo t g = record { heard = g .heard; proposals = g .proposals; priorities = g .priorities }
+good-accepted n own p (receive bytes) lo t g = fileRead-good n p (readOf n bytes) (λ m e. read-writable n bytes m (t .0) e) g
+good-accepted n own p (act block priority out) lo t g =
+    fileMade-good n (closed p (madeBy n own p block priority) (decidedBy n p)) (madeBy n own p block priority)
+    (made n own block priority lo (t .0) (t .1) (t .2) p g)
+    (record { heard = g .heard; proposals = g .proposals; priorities = g .priorities })
+
+-- every call, and every list of calls
+pub step-good : (n own : ℕ) (p : History) (c : Call) → own < n → Typed c → GoodHistory n p → GoodHistory n (step n own p c)
+unfolding step
+step-good n own p c lo t g = go (refusal n p c)
+  where
+    go : (r : Option ℕ) → GoodHistory n (orAccepted r p (accepted n own p c))
+    go none = good-accepted n own p c lo t g
+    go (some k) = g
+
+from-good : (n own : ℕ) (p : History) (cs : List Call) → own < n → AllTyped cs → GoodHistory n p → GoodHistory n (afterFrom n own p cs)
+unfolding afterFrom
+from-good n own p [] lo t g = g
+from-good n own p (c ∷ cs) lo t g = from-good n own (step n own p c) cs lo (t .1) (step-good n own p c lo (t .0) g)
+
+pub after-good : (n own : ℕ) (cs : List Call) → own < n → AllTyped cs → GoodHistory n (after n own cs)
+unfolding after
+after-good n own cs lo t = from-good n own fresh cs lo t (fresh-good n)

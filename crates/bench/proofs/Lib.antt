@@ -1,0 +1,27 @@
+-- Laws of the definitions in specs/, and the theorems. The layer above cites these.
+-- One call of the history; what it takes, makes and decides keeps to the message's limits:
+pub mod CallLaws
+pub mod GoodHistory
+-- Records within their limits, and which agreement is whose:
+pub mod Fine
+pub mod FineAgreements
+pub mod FineProposals
+pub mod FineBench
+pub mod Slots
+-- The refusals, of every record:
+pub mod ReadRefusals
+pub mod Refusals
+-- The tie between record and history, kept by every call:
+pub mod Ties
+pub mod Filling
+pub mod FilingTies
+pub mod CallTies
+pub mod SeenTies
+pub mod Settling
+pub mod ActTies
+pub mod Acting
+-- Worked examples:
+pub mod Odd
+pub mod Order
+pub mod Windows
+pub mod Sample

@@ -1,0 +1,202 @@
+-- Refusal 9, cause by cause, on both sides of each limit; and odd records that no cause listed refuses: one table, computed. Assumes nothing.
+use Prim.Native.Nat.{ℕ, _^_, _-_}
+use mathlib.Core.Bool.{Bool, true, false}
+use mathlib.Core.List.{List, [], _∷_, map}
+use mathlib.Core.Path.{_≡_, refl}
+use lib.ListN.{replicate, set}
+use Rattle.agreement.specs.Limits.{mostSenders}
+use Rattle.agreement.specs.Sets.{weigh}
+use Rattle.agreement.specs.Record.{emptyAgreement}
+use Rattle.agreement.specs.Proposals.{emptyProposals}
+use Rattle.agreement.specs.declared.Agreement.{Agreement}
+use Rattle.agreement.specs.declared.Proposals.{Proposals}
+use Rattle.bench.specs.Record.{anyPlace, beyondAgreement, beyondProposals, beyond}
+use Rattle.bench.specs.declared.Bench.{Bench}
+
+-- ---- records
+
+-- nobody; one sender; a length of k blocks at place i
+abbrev pub nobody : List Bool
+nobody = replicate mostSenders false
+
+abbrev pub only : ℕ → List Bool
+only i = set nobody i true
+
+abbrev pub long : ℕ → ℕ → List ℕ
+long i k = set (replicate mostSenders 0) i k
+
+-- by n, own number, `next` and the decided length
+abbrev pub plain : ℕ → ℕ → ℕ → ℕ → Bench
+plain n own next decided = record {
+  n = n;
+  own = own;
+  next = next;
+  gathering = false;
+  even = emptyAgreement 0;
+  odd = emptyAgreement 0;
+  proposals = emptyProposals 0;
+  decided = decided;
+  parted = false;
+}
+
+-- by view, lengths, V, E, snapshots one and two
+abbrev pub agreement : ℕ → List ℕ → List Bool → List Bool → List Bool → List Bool → Agreement
+agreement v lengths voters equivocators one two = record {
+  view = v;
+  lengths = lengths;
+  voters = voters;
+  equivocators = equivocators;
+  one = one;
+  two = two;
+  hasone = false;
+  hastwo = false;
+}
+
+-- by view, lengths, the senders with one, and those set aside
+abbrev pub proposals : ℕ → List ℕ → List Bool → List Bool → Proposals
+proposals v lengths filed aside = record {
+  view = v;
+  lengths = lengths;
+  priorities = replicate mostSenders (2 ^ 64 - 1);
+  filed = filed;
+  aside = aside;
+}
+
+-- bench 4 of 5, with one part that is not empty
+abbrev parts : Agreement → Agreement → Proposals → Bench
+parts even odd proposals = record {
+  n = 5;
+  own = 4;
+  next = 0;
+  gathering = false;
+  even = even;
+  odd = odd;
+  proposals = proposals;
+  decided = 0;
+  parted = false;
+}
+
+abbrev even : Agreement → Bench
+even g = parts g (emptyAgreement 0) (emptyProposals 0)
+
+abbrev odd : Agreement → Bench
+odd g = parts (emptyAgreement 0) g (emptyProposals 0)
+
+abbrev offered : Proposals → Bench
+offered g = parts (emptyAgreement 0) (emptyAgreement 0) g
+
+-- no length, only sets: V, E, snapshots one and two
+abbrev sets : List Bool → List Bool → List Bool → List Bool → Agreement
+sets voters equivocators one two = agreement 0 (long 0 0) voters equivocators one two
+
+-- ---- the rows
+
+pub record Row : Type 0 where
+  pub bench : Bench
+  pub refused : Bool
+
+abbrev fine : Bench → Row
+fine b = record { bench = b; refused = false }
+
+abbrev bad : Bench → Row
+bad b = record { bench = b; refused = true }
+
+abbrev pub rows : List Row
+rows =
+    -- n
+    bad (plain 0 0 0 0)
+    ∷ fine (plain 1 0 0 0)
+    ∷ fine (plain 32 31 0 0)
+    ∷ bad (plain 33 0 0 0)
+    ∷ bad (plain 255 0 0 0)
+    -- the own number
+    ∷ fine (plain 5 4 0 0)
+    ∷ bad (plain 5 5 0 0)
+    ∷ bad (plain 1 1 0 0)
+    ∷ bad (plain 32 32 0 0)
+    -- a beat: 4,000,006 is stored as one more
+    ∷ fine (plain 5 4 4000007 0)
+    ∷ bad (plain 5 4 4000008 0)
+    ∷ bad (plain 5 4 4294967295 0)
+    -- the decided length
+    ∷ fine (plain 5 4 0 64)
+    ∷ bad (plain 5 4 0 65)
+    ∷ bad (plain 5 4 0 255)
+    -- a view
+    ∷ fine (even (emptyAgreement 1000000))
+    ∷ bad (even (emptyAgreement 1000001))
+    ∷ fine (odd (emptyAgreement 1000000))
+    ∷ bad (odd (emptyAgreement 1000001))
+    ∷ fine (offered (emptyProposals 1000000))
+    ∷ bad (offered (emptyProposals 1000001))
+    -- a length, at every place, filed or not
+    ∷ fine (even (agreement 0 (replicate mostSenders 64) nobody nobody nobody nobody))
+    ∷ bad (even (agreement 0 (long 0 65) nobody nobody nobody nobody))
+    ∷ bad (even (agreement 0 (long 31 65) nobody nobody nobody nobody))
+    ∷ fine (odd (agreement 1 (replicate mostSenders 64) nobody nobody nobody nobody))
+    ∷ bad (odd (agreement 1 (long 0 65) nobody nobody nobody nobody))
+    ∷ bad (odd (agreement 1 (long 31 255) nobody nobody nobody nobody))
+    ∷ fine (offered (proposals 0 (replicate mostSenders 64) nobody nobody))
+    ∷ bad (offered (proposals 0 (long 0 65) nobody nobody))
+    ∷ bad (offered (proposals 0 (long 31 65) nobody nobody))
+    -- a set naming n or above: V, ..
+    ∷ fine (even (sets (only 4) nobody nobody nobody))
+    ∷ bad (even (sets (only 5) nobody nobody nobody))
+    ∷ bad (odd (sets (only 31) nobody nobody nobody))
+    -- E,
+    ∷ fine (odd (sets nobody (only 4) nobody nobody))
+    ∷ bad (even (sets nobody (only 5) nobody nobody))
+    ∷ bad (odd (sets nobody (only 31) nobody nobody))
+    -- the snapshots, of senders in S or not,
+    ∷ fine (even (sets (only 4) nobody (only 4) (only 4)))
+    ∷ bad (even (sets nobody nobody (only 5) nobody))
+    ∷ bad (odd (sets (only 5) nobody (only 5) nobody))
+    ∷ bad (odd (sets nobody nobody nobody (only 31)))
+    ∷ bad (even (sets nobody (only 5) nobody (only 5)))
+    -- the proposals, and those set aside
+    ∷ fine (offered (proposals 0 (long 0 0) (only 4) (only 4)))
+    ∷ bad (offered (proposals 0 (long 0 0) (only 5) nobody))
+    ∷ bad (offered (proposals 0 (long 0 0) nobody (only 5)))
+    ∷ bad (offered (proposals 0 (long 0 0) (only 31) (only 31)))
+    -- a sender in both V and E
+    ∷ fine (even (sets (only 3) (only 4) nobody nobody))
+    ∷ bad (even (sets (only 0) (only 0) nobody nobody))
+    ∷ bad (odd (sets (only 4) (only 4) nobody nobody))
+    -- a snapshot sender outside S; one in E since is inside
+    ∷ fine (even (sets (only 3) (only 4) (only 3) (only 4)))
+    ∷ fine (odd (sets nobody (only 0) (only 0) (only 0)))
+    ∷ bad (even (sets nobody nobody (only 0) nobody))
+    ∷ bad (even (sets (only 1) nobody nobody (only 0)))
+    ∷ bad (odd (sets nobody (only 1) (only 4) nobody))
+    ∷ bad (odd (sets (only 3) (only 1) (only 3) (only 4)))
+    -- Nothing else is a cause. A gathering with no beat begun, marked as parted; ..
+    ∷ fine (record {
+      n = 5;
+      own = 4;
+      next = 0;
+      gathering = true;
+      even = emptyAgreement 0;
+      odd = emptyAgreement 0;
+      proposals = emptyProposals 0;
+      decided = 0;
+      parted = true;
+    })
+    -- a view to come, and in the other parity's slot; ..
+    ∷ fine (parts (agreement 7 (long 0 1) (only 0) nobody nobody nobody) (agreement 8 (long 0 1) (only 0) nobody nobody nobody) (emptyProposals 9))
+    -- a proposal set aside that is not filed; a snapshot said to be taken, of nobody; a length of nobody's
+    ∷ fine (offered (proposals 9 (long 31 1) nobody (only 0)))
+    ∷ fine (even (record {
+      view = 0;
+      lengths = long 4 64;
+      voters = nobody;
+      equivocators = nobody;
+      one = nobody;
+      two = nobody;
+      hasone = true;
+      hastwo = true;
+    }))
+    ∷ []
+
+pub rows-hold : map (λ (r : Row). beyond (r .bench)) rows ≡ map (λ (r : Row). r .refused) rows
+unfolding beyond beyondAgreement beyondProposals anyPlace weigh
+rows-hold = refl

@@ -1,0 +1,148 @@
+-- The first failure is given: calls with many faults at once, then one fault less each time. One table, computed. Assumes nothing.
+use Prim.Native.Nat.{ℕ}
+use mathlib.Core.Bool.{true, false}
+use mathlib.Core.List.{List, [], _∷_, _++_, map}
+use mathlib.Core.Option.{none}
+use mathlib.Core.Path.{_≡_, refl}
+use lib.ListN.{replicate}
+use Rattle.message.specs.Choice.{some}
+use Rattle.message.specs.Numbers.{numberAt, numbersAt}
+use Rattle.message.specs.Logs.{Block, inStep}
+use Rattle.message.specs.Message.{malformed, readOf, meaningIn}
+use Rattle.agreement.specs.Sets.{weigh}
+use Rattle.agreement.specs.Record.{emptyAgreement}
+use Rattle.agreement.specs.Proposals.{emptyProposals}
+use Rattle.bench.specs.Layout.{Lent}
+use Rattle.bench.specs.Calls.{Reply, refused, done, acted}
+use Rattle.bench.specs.Acts.{makes}
+use Rattle.bench.specs.Record.{anyPlace, beyondAgreement, beyondProposals, beyond, agreementOf, withAgreement}
+use Rattle.bench.specs.ByRecord.{State, openOf, beginOf, receiveOf, snappedTwo, changed, actedOf, actOf}
+use Rattle.bench.specs.declared.Bench.{Bench}
+use Rattle.bench.proofs.Odd.{plain}
+
+-- ---- the rows
+
+pub data Row : Type 0 where
+  -- n, own number, the lists
+  opens : ℕ → ℕ → Lent → Reply → Row
+  -- a beat
+  begins : State → ℕ → Reply → Row
+  -- the bytes
+  takes : State → List ℕ → Reply → Row
+  -- the outgoing buffer; one block is offered
+  acts : State → List ℕ → Reply → Row
+
+abbrev block : Block
+block = record { name = 5; count = 1 }
+
+abbrev pub worked : Row → Reply
+worked (opens n own l r) = openOf n own l .reply
+worked (begins s beat r) = beginOf s beat .answer .reply
+worked (takes s bytes r) = receiveOf s bytes .answer .reply
+worked (acts s out r) = actOf s block 9 out .answer .reply
+
+abbrev pub stated : Row → Reply
+stated (opens n own l r) = r
+stated (begins s beat r) = r
+stated (takes s bytes r) = r
+stated (acts s out r) = r
+
+-- ---- records and lists
+
+-- two lists, of so many names and so many counts
+abbrev lent : ℕ → ℕ → Lent
+lent x y = record { names = replicate x 1; counts = replicate y 1 }
+
+abbrev pub held : Bench → ℕ → ℕ → State
+held b x y = record { bench = b; lent = lent x y }
+
+-- beyond its limits
+abbrev bad : Bench
+bad = plain 0 0 0 0
+
+-- bench 4 of 5, acted at beat 8; a gathering said to be under way, `next` being one more than the beat
+abbrev idle : Bench
+idle = plain 5 4 9 0
+
+abbrev pub gathering : ℕ → Bench
+gathering next = record {
+  n = 5;
+  own = 4;
+  next = next;
+  gathering = true;
+  even = emptyAgreement 0;
+  odd = emptyAgreement 0;
+  proposals = emptyProposals 0;
+  decided = 0;
+  parted = false;
+}
+
+-- bytes: block count, sender, kind, byte 3; the view; the priority, of eight bytes alike
+abbrev head : ℕ → ℕ → ℕ → ℕ → List ℕ → ℕ → List ℕ
+head k sender kind three view priority = k ∷ sender ∷ kind ∷ three ∷ (view ++ replicate 8 priority)
+
+-- a view over its limit, and view 1
+abbrev late : List ℕ
+late = replicate 4 255
+
+abbrev one : List ℕ
+one = 1 ∷ 0 ∷ 0 ∷ 0 ∷ []
+
+abbrev pub rows : List Row
+rows =
+    -- Open: 7, 8
+    opens 0 0 (lent 6207 6207) (refused 7)
+    ∷ opens 33 0 (lent 6208 6208) (refused 7)
+    ∷ opens 5 5 (lent 6208 6208) (refused 7)
+    ∷ opens 5 4 (lent 6207 6208) (refused 8)
+    ∷ opens 5 4 (lent 6208 6207) (refused 8)
+    ∷ opens 5 4 (lent 0 0) (refused 8)
+    ∷ opens 5 4 (lent 6208 6208) done
+    ∷ opens 1 0 (lent 6208 6209) done
+    ∷ opens 32 31 (lent 6209 6208) done
+    -- Begin: 9, 8, 10, 20
+    ∷ begins (held bad 6207 6207) 4000007 (refused 9)
+    ∷ begins (held idle 6207 6208) 4000007 (refused 8)
+    ∷ begins (held idle 6208 6207) 4000007 (refused 8)
+    ∷ begins (held idle 6208 6208) 4000007 (refused 10)
+    ∷ begins (held idle 6208 6208) 4294967295 (refused 10)
+    ∷ begins (held idle 6208 6208) 8 (refused 20)
+    ∷ begins (held idle 6208 6208) 0 (refused 20)
+    ∷ begins (held idle 6208 6208) 9 done
+    ∷ begins (held idle 6209 6208) 4000006 done
+    ∷ begins (held (plain 5 4 0 0) 6208 6208) 0 done
+    ∷ begins (held (plain 5 4 4000007 0) 6208 6208) 4000006 (refused 20)
+    ∷ begins (held (gathering 5) 6208 6208) 4 (refused 20)
+    ∷ begins (held (gathering 5) 6208 6208) 5 done
+    -- Receive: 9, 8, 22, 1 to 6, 21
+    ∷ takes (held bad 6207 6207) [] (refused 9)
+    ∷ takes (held idle 6208 6207) [] (refused 8)
+    ∷ takes (held idle 6207 6208) [] (refused 8)
+    ∷ takes (held idle 6208 6208) [] (refused 22)
+    ∷ takes (held (gathering 0) 6208 6208) [] (refused 22)
+    ∷ takes (held (gathering 1) 6208 6208) [] (refused 1)
+    ∷ takes (held (gathering 1) 6208 6208) (head 1 9 9 9 late 255) (refused 2)
+    ∷ takes (held (gathering 1) 6208 6208) (head 1 9 9 9 late 255 ++ replicate 10 0) (refused 3)
+    ∷ takes (held (gathering 1) 6208 6208) (head 1 5 2 0 late 255 ++ replicate 10 0) (refused 4)
+    ∷ takes (held (gathering 1) 6208 6208) (head 1 4 2 0 late 255 ++ replicate 10 0) (refused 5)
+    ∷ takes (held (gathering 1) 6208 6208) (head 1 4 2 0 one 255 ++ replicate 10 0) (refused 6)
+    ∷ takes (held (gathering 1) 6208 6208) (head 1 4 2 0 one 255 ++ replicate 10 1) (refused 21)
+    -- Act: 9, 8, 11, 22
+    ∷ acts (held bad 6207 6207) (replicate 655 7) (refused 9)
+    ∷ acts (held idle 6207 6208) (replicate 655 7) (refused 8)
+    ∷ acts (held idle 6208 6207) (replicate 655 7) (refused 8)
+    ∷ acts (held idle 6208 6208) (replicate 655 7) (refused 11)
+    ∷ acts (held idle 6208 6208) (replicate 656 7) (refused 22)
+    ∷ acts (held (gathering 0) 6208 6208) (replicate 656 7) (refused 22)
+    -- 11 even where nothing would be made
+    ∷ acts (held (gathering 4) 6208 6208) (replicate 655 7) (refused 11)
+    ∷ acts (held (gathering 4) 6208 6208) (replicate 656 7) (acted none)
+    -- a second act
+    ∷ acts (actOf (held (gathering 4) 6208 6208) block 9 (replicate 656 7) .held) (replicate 656 7) (refused 22)
+    ∷ []
+
+pub rows-hold : map worked rows ≡ map stated rows
+unfolding
+    openOf beginOf receiveOf actedOf actOf makes changed snappedTwo agreementOf withAgreement readOf malformed meaningIn some numberAt numbersAt inStep
+    beyond beyondAgreement beyondProposals anyPlace weigh
+rows-hold = refl

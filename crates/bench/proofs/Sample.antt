@@ -1,0 +1,174 @@
+-- Rolls of a bench that is alone, document 01's sample first, by the definitions that the code is held to: computed. Assumes nothing.
+use Prim.Native.Nat.{ℕ}
+use mathlib.Core.Bool.{Bool, true, false}
+use mathlib.Core.List.{List, [], _∷_, _++_, map}
+use mathlib.Core.Option.{Option, some, none}
+use mathlib.Core.Path.{_≡_, refl}
+use lib.ListN.{replicate}
+use Rattle.message.specs.Choice as choice
+use Rattle.message.specs.Numbers.{part, put, numberAt, numbersAt, bytesFor, bytesForEach}
+use Rattle.message.specs.Logs.{Block, Log, isPrefix, sameLog, inStep, namesOf, countsOf}
+use Rattle.message.specs.Message.{Meaning, logMessage, proposalMessage, messageBytes, bytesOf, malformed, readOf, meaningIn}
+use Rattle.message.specs.Store.{logAt}
+use Rattle.agreement.specs.Sets.{weigh}
+use Rattle.agreement.specs.Reading as reading
+use Rattle.agreement.specs.Reading.{maySupport, supports, hasGrade, under, prefixes, candidates, longestOf, longest}
+use Rattle.agreement.specs.Record.{overlong}
+use Rattle.agreement.specs.Filing.{fileOf}
+use Rattle.agreement.specs.Grades.{gradeAmong}
+use Rattle.agreement.specs.Proposals.{fileProposalOf, bestOf}
+use Rattle.agreement.specs.Kept.{keptProposal}
+use Rattle.agreement.specs.Heard.{voteAmong}
+use Rattle.bench.specs.Layout.{leastLent, mostBytes}
+use Rattle.bench.specs.Calls.{Reply, done, acted, Step}
+use Rattle.bench.specs.Acts.{propose, vote, makes}
+use Rattle.bench.specs.Record.{freshBench, agreementOf, proposalsOf, withAgreement, anyPlace, beyondAgreement, beyondProposals, beyond}
+use Rattle.bench.specs.ByRecord.{State, keptAgreement, keptProposals, beginOf, fileMessage, receiveOf, candidateOf, lockOf, decisionOf, settled, snappedOne, snappedTwo, changed, actedOf, actOf, decidedLog}
+use Rattle.bench.specs.declared.Bench.{Bench}
+
+-- ---- a roll
+
+-- begin and act at a beat: offering a name, a count and a priority; with a message received between the two; or neither
+pub data Event : Type 0 where
+  offering : ℕ → ℕ → ℕ → ℕ → Event
+  hearing : ℕ → Meaning → Event
+  at : ℕ → Event
+
+-- the answers to Begin and to Act, the decided log afterwards, and the mark
+pub record Line : Type 0 where
+  pub begun : Reply
+  pub made : Reply
+  pub decided : Log
+  pub parted : Bool
+
+abbrev beatIn : Event → ℕ
+beatIn (offering beat name count priority) = beat
+beatIn (hearing beat m) = beat
+beatIn (at beat) = beat
+
+abbrev blockIn : Event → Block
+blockIn (offering beat name count priority) = record { name = name; count = count }
+blockIn (hearing beat m) = record { name = 0; count = 0 }
+blockIn (at beat) = record { name = 0; count = 0 }
+
+abbrev priorityIn : Event → ℕ
+priorityIn (offering beat name count priority) = priority
+priorityIn (hearing beat m) = 0
+priorityIn (at beat) = 0
+
+abbrev heardIn : Event → State → State
+heardIn (offering beat name count priority) s = s
+heardIn (hearing beat m) s = receiveOf s (bytesOf m) .held
+heardIn (at beat) s = s
+
+-- each call gets record, lists and buffer as the last one left them
+unfoldable pub rollFrom : State → List ℕ → List Event → List Line
+rollFrom s out [] = []
+rollFrom s out (o ∷ os) =
+    let b : Step Bench = beginOf s (beatIn o) in
+    let a : Step Bench = actOf (heardIn o (b .held)) (blockIn o) (priorityIn o) out in
+    record { begun = b .answer .reply; made = a .answer .reply; decided = decidedLog (a .held); parted = a .held .bench .parted }
+    ∷ rollFrom (a .held) (a .answer .out) os
+
+-- bench 0 of 1, as Open gives it
+abbrev pub alone : State
+alone = record { bench = freshBench 1 0; lent = record { names = replicate leastLent 0; counts = replicate leastLent 0 } }
+
+abbrev pub roll : List Event → List Line
+roll events = rollFrom alone (replicate mostBytes 0) events
+
+-- ---- what is answered
+
+abbrev line : Option Meaning → Log → Line
+line made decided = record { begun = done; made = acted made; decided = decided; parted = false }
+
+abbrev partedLine : Option Meaning → Log → Line
+partedLine made decided = record { begun = done; made = acted made; decided = decided; parted = true }
+
+-- of bench 0
+abbrev log : ℕ → Log → Meaning
+log v L = logMessage (record { sender = 0; view = v; log = L })
+
+abbrev proposal : ℕ → Log → ℕ → Meaning
+proposal v L priority = proposalMessage (record { sender = 0; view = v; log = L }) priority
+
+abbrev block : ℕ → ℕ → Block
+block name count = record { name = name; count = count }
+
+abbrev five : Log
+five = block 5 1 ∷ []
+
+abbrev seven : Log
+seven = block 7 1 ∷ []
+
+-- with counts other than 1
+abbrev short : Log
+short = block 5 3 ∷ []
+
+abbrev longer : Log
+longer = block 5 3 ∷ block 6 0 ∷ []
+
+-- ---- the rolls
+
+-- The sample: "begin and act at beats 0 to 6, offering name 5, count 1, priority 9 at beat 0 and nothing later".
+abbrev pub sample : List Event
+sample = offering 0 5 1 9 ∷ at 1 ∷ at 2 ∷ at 3 ∷ at 4 ∷ at 5 ∷ at 6 ∷ []
+
+abbrev pub sampleLines : List Line
+sampleLines =
+    line (some (proposal 0 five 9)) []
+    ∷ line (some (log 0 five)) []
+    ∷ line none []
+    ∷ line none []
+    ∷ line none []
+    ∷ line (some (log 1 five)) []
+    ∷ line none five
+    ∷ []
+
+-- A block in each of two views, with counts other than 1: the second view's extends the first's.
+abbrev pub twoViews : List Event
+twoViews = offering 0 5 3 9 ∷ at 1 ∷ at 2 ∷ at 3 ∷ offering 4 6 0 7 ∷ at 5 ∷ at 6 ∷ at 7 ∷ at 8 ∷ at 9 ∷ at 10 ∷ []
+
+abbrev pub twoViewsLines : List Line
+twoViewsLines =
+    line (some (proposal 0 short 9)) []
+    ∷ line (some (log 0 short)) []
+    ∷ line none []
+    ∷ line none []
+    ∷ line (some (proposal 1 longer 7)) []
+    ∷ line (some (log 1 longer)) []
+    ∷ line none short
+    ∷ line none short
+    ∷ line none short
+    ∷ line (some (log 2 longer)) short
+    ∷ line none longer
+    ∷ []
+
+-- Asleep at 3: no snapshot two, so no lock at 5; snapshot one is there, so a decision at 6.
+abbrev pub asleep : List Event
+asleep = offering 0 5 1 9 ∷ at 1 ∷ at 2 ∷ at 4 ∷ at 5 ∷ at 6 ∷ []
+
+abbrev pub asleepLines : List Line
+asleepLines = line (some (proposal 0 five 9)) [] ∷ line (some (log 0 five)) [] ∷ line none [] ∷ line none [] ∷ line none [] ∷ line none five ∷ []
+
+-- Decisions in conflict: the first stands, and the mark is set. (Only LOGs under its own number can bring a bench alone to this.)
+abbrev pub parting : List Event
+parting = hearing 2 (log 0 five) ∷ hearing 6 (log 1 seven) ∷ at 10 ∷ at 11 ∷ []
+
+abbrev pub partingLines : List Line
+partingLines = line none [] ∷ line none five ∷ partedLine none five ∷ partedLine none five ∷ []
+
+-- Past the last view nothing is proposed or voted, though there is a candidate, a block and a lock; the last decision stands.
+abbrev pub ending : List Event
+ending = hearing 4000001 (log 1000000 five) ∷ at 4000002 ∷ at 4000003 ∷ offering 4000004 6 1 9 ∷ at 4000005 ∷ at 4000006 ∷ []
+
+abbrev pub endingLines : List Line
+endingLines = replicate 5 (line none []) ++ (line none five ∷ [])
+
+pub rolls-hold : map roll (sample ∷ twoViews ∷ asleep ∷ parting ∷ ending ∷ []) ≡ sampleLines ∷ twoViewsLines ∷ asleepLines ∷ partingLines ∷ endingLines ∷ []
+unfolding
+    rollFrom beginOf receiveOf readOf malformed meaningIn choice.some actOf actedOf changed snappedOne snappedTwo settled candidateOf lockOf decisionOf fileMessage keptAgreement keptProposals agreementOf
+    proposalsOf withAgreement anyPlace beyondAgreement beyondProposals beyond propose vote makes voteAmong keptProposal fileProposalOf bestOf gradeAmong
+    fileOf overlong maySupport supports hasGrade under prefixes candidates reading.longer longestOf longest weigh logAt messageBytes
+    bytesOf part put numberAt numbersAt bytesFor bytesForEach isPrefix sameLog inStep namesOf countsOf
+rolls-hold = refl

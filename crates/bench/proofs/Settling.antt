@@ -1,0 +1,144 @@
+-- An act ends the gathering and settles its decision: what stands in the record and the lists is what the decisions come to; what is filed stays.
+-- Assumes nothing.
+use Prim.Native.Nat.{ℕ}
+use native.Mathlib.Omega.{arith}
+use mathlib.Core.Bool.{true, false}
+use mathlib.Core.Option.{Option, some, none}
+use mathlib.Core.Path.{_≡_, refl, sym, ap, _∙_}
+use lib.ListN.{length}
+use Rattle.message.specs.Limits.{mostBlocks}
+use Rattle.message.specs.Numbers.{put}
+use Rattle.message.specs.Logs.{Log, isPrefix, namesOf, countsOf}
+use Rattle.message.specs.Store.{logAt}
+use Rattle.message.proofs.TestLaws.{either}
+use Rattle.message.proofs.ListedLaws.{log-stored}
+use Rattle.agreement.proofs.ElsewhereLaws.{Elsewhere, put-elsewhere}
+use Rattle.bench.specs.Layout.{decidedPlace, Lent}
+use Rattle.bench.specs.Acts.{Stand, settle}
+use Rattle.bench.specs.History.{History, standIn}
+use Rattle.bench.specs.Record.{agreementOf, proposalsOf, withGatheringOver, withDecided, withParted}
+use Rattle.bench.specs.ByRecord.{State, decidedLog, over, settled}
+use Rattle.bench.specs.declared.Bench.{Bench}
+use Rattle.bench.proofs.Fine.{Fine}
+use Rattle.bench.proofs.FineBench.{over-fine, decided-fine, parted-fine}
+use Rattle.bench.proofs.GoodHistory.{GoodLog}
+use Rattle.bench.proofs.Ties.{Filled, Roomy, standOf, Tie}
+use Rattle.bench.proofs.Filling.{filled-decided}
+use Rattle.bench.proofs.FilingTies.{roomy-elsewhere}
+
+-- The state x after a decision d, of a bench that was tied to p and whose gathering is over.
+pub record Settled (n own : ℕ) (s : State) (p : History) (d : Option Log) (x : State) : Type 0 where
+  pub n-is : x .bench .n ≡ n
+  pub own-is : x .bench .own ≡ own
+  pub next-is : x .bench .next ≡ s .bench .next
+  pub at-rest : x .bench .gathering ≡ false
+  pub fine : Fine (x .bench)
+  pub roomy : Roomy (x .lent)
+  pub filled : Filled (x .bench) (x .lent) p
+  pub stand-is : standOf x ≡ settle (standIn (p .actions)) d
+
+-- a record with the same agreements, proposals and beat holds the same
+same-filled : {b c : Bench} {l : Lent} {p : History} → c .next ≡ b .next → c .even ≡ b .even → c .odd ≡ b .odd → c .proposals ≡ b .proposals → Filled b l p → Filled c l p
+unfolding agreementOf proposalsOf
+same-filled e f g h x = record {
+  views = rw (e, f, g) (x .views);
+  proposals = rw (e, h) (x .proposals);
+  since = rw e (x .since);
+}
+
+module _ (n own : ℕ) (s : State) (p : History) (t : Tie n own s p) where
+  over-filled : Filled (withGatheringOver (s .bench)) (s .lent) p
+  over-filled = same-filled refl refl refl refl (t .filled)
+
+  -- nothing to decide
+  none-settled : Settled n own s p none (settled (over s) none)
+  unfolding settled settle
+  none-settled = record {
+    n-is = t .n-is;
+    own-is = t .own-is;
+    next-is = refl;
+    at-rest = refl;
+    fine = over-fine (s .bench) (t .fine);
+    roomy = t .roomy;
+    filled = over-filled;
+    stand-is = t .stand-is;
+  }
+
+  module _ (L : Log) (good : GoodLog L) where
+    elsewhere : Elsewhere decidedPlace mostBlocks (s .lent .names) (s .lent .counts) (put (s .lent .names) decidedPlace (namesOf L)) (put (s .lent .counts) decidedPlace (countsOf L))
+    elsewhere =
+        let l = good .short in
+        put-elsewhere decidedPlace mostBlocks (s .lent .names) (s .lent .counts) decidedPlace L (omega arith) (omega arith) (good .names) (good .counts)
+
+    there : logAt (put (s .lent .names) decidedPlace (namesOf L)) (put (s .lent .counts) decidedPlace (countsOf L)) decidedPlace (length L) ≡ L
+    there =
+        let l = good .short in
+        let x = t .roomy .names in
+        let y = t .roomy .counts in
+        log-stored (s .lent .names) (s .lent .counts) decidedPlace L (omega arith) (omega arith)
+
+    stands : decidedLog s ≡ standIn (p .actions) .log
+    stands = ap (λ (x : Stand). x .log) (t .stand-is)
+
+    marked : s .bench .parted ≡ standIn (p .actions) .parted
+    marked = ap (λ (x : Stand). x .parted) (t .stand-is)
+
+    -- it extends what stands, is a prefix of it, or conflicts with it
+    some-settled : Settled n own s p (some L) (settled (over s) (some L))
+    unfolding settled settle
+    some-settled =
+        either (isPrefix (decidedLog s) L)
+        (λ e.
+        let e′ : isPrefix (standIn (p .actions) .log) L ≡ true = ap (λ (x : Log). isPrefix x L) (sym stands) ∙ e in
+        let a = there in
+        let m = marked in
+        let st : standOf (record { bench = withDecided (withGatheringOver (s .bench)) (length L); lent = record { names = put (s .lent .names) decidedPlace (namesOf L); counts = put (s .lent .counts) decidedPlace (countsOf L) } }) ≡ record { log = L; parted = standIn (p .actions) .parted } =
+        λ i. record { log = a i; parted = m i } in
+        let z : settle (standIn (p .actions)) (some L) ≡ record { log = L; parted = standIn (p .actions) .parted } = rw e′ in
+        rw e (record {
+          n-is = t .n-is;
+          own-is = t .own-is;
+          next-is = refl;
+          at-rest = refl;
+          fine = decided-fine (withGatheringOver (s .bench)) (over-fine (s .bench) (t .fine)) (length L) (good .short);
+          roomy = roomy-elsewhere elsewhere (t .roomy);
+          filled = same-filled refl refl refl refl (filled-decided (t .fine) elsewhere (t .filled));
+          stand-is = st ∙ sym z;
+        }))
+        (λ e. either (isPrefix L (decidedLog s))
+        (λ f.
+        let e′ : isPrefix (standIn (p .actions) .log) L ≡ false = ap (λ (x : Log). isPrefix x L) (sym stands) ∙ e in
+        let f′ : isPrefix L (standIn (p .actions) .log) ≡ true = ap (isPrefix L) (sym stands) ∙ f in
+        let z : settle (standIn (p .actions)) (some L) ≡ standIn (p .actions) = rw (e′, f′) in
+        rw (e, f) (record {
+          n-is = t .n-is;
+          own-is = t .own-is;
+          next-is = refl;
+          at-rest = refl;
+          fine = over-fine (s .bench) (t .fine);
+          roomy = t .roomy;
+          filled = over-filled;
+          stand-is = t .stand-is ∙ sym z;
+        }))
+        (λ f.
+        let e′ : isPrefix (standIn (p .actions) .log) L ≡ false = ap (λ (x : Log). isPrefix x L) (sym stands) ∙ e in
+        let f′ : isPrefix L (standIn (p .actions) .log) ≡ false = ap (isPrefix L) (sym stands) ∙ f in
+        let a = stands in
+        let st : standOf (record { bench = withParted (withGatheringOver (s .bench)); lent = s .lent }) ≡ record { log = standIn (p .actions) .log; parted = true } =
+        λ i. record { log = a i; parted = true } in
+        let z : settle (standIn (p .actions)) (some L) ≡ record { log = standIn (p .actions) .log; parted = true } = rw (e′, f′) in
+        rw (e, f) (record {
+          n-is = t .n-is;
+          own-is = t .own-is;
+          next-is = refl;
+          at-rest = refl;
+          fine = parted-fine (withGatheringOver (s .bench)) (over-fine (s .bench) (t .fine));
+          roomy = t .roomy;
+          filled = same-filled refl refl refl refl (t .filled);
+          stand-is = st ∙ sym z;
+        })))
+
+  -- whatever there is to decide
+  pub decision-settled : (d : Option Log) → ((L : Log) → d ≡ some L → GoodLog L) → Settled n own s p d (settled (over s) d)
+  decision-settled none good = none-settled
+  decision-settled (some L) good = some-settled L (good L refl)

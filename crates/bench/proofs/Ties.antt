@@ -1,0 +1,88 @@
+-- The tie between a bench's record with its lists and its history: of every view still open they hold the same. Assumes nothing.
+use Prim.Native.Nat.{ℕ, zero, suc, _+_, _^_, _≤_, _<_}
+use native.Mathlib.Omega.{arith}
+use mathlib.Core.Bool.{Bool, not}
+use mathlib.Core.List.{List, [], _∷_, List·Memᴰ, List·Memᴰ·head, List·Memᴰ·tail}
+use mathlib.Core.Option.{Option, some, none}
+use mathlib.Core.Path.{_≡_, refl}
+use borrow.Author.Tests.{ne-eqb}
+use lib.ListN.{length}
+use Rattle.message.specs.Choice.{pick}
+use Rattle.message.specs.Numbers.{AllBelow}
+use Rattle.message.specs.Message.{Content}
+use Rattle.agreement.specs.Sets.{member}
+use Rattle.agreement.specs.Kept.{keptLog, keptProposal}
+use Rattle.agreement.specs.Heard.{heardLogs, ProposalHeard, heardProposals}
+use Rattle.agreement.specs.declared.Agreement.{Agreement}
+use Rattle.agreement.specs.declared.Proposals.{Proposals}
+use Rattle.bench.specs.Layout.{logsPlace, proposalsPlace, leastLent, Lent}
+use Rattle.bench.specs.Calendar.{lastView, viewBeat, inputBeat, snapshotOneBeat, snapshotTwoBeat, closeBeat}
+use Rattle.bench.specs.Acts.{Stand}
+use Rattle.bench.specs.History.{ActRecord, History, heardAt, snapshotOf, standIn}
+use Rattle.bench.specs.Record.{agreementOf, proposalsOf, idle}
+use Rattle.bench.specs.ByRecord.{State, decidedLog}
+use Rattle.bench.specs.declared.Bench.{Bench}
+use Rattle.bench.proofs.Fine.{Fine}
+use Rattle.bench.proofs.GoodHistory.{GoodHistory}
+
+-- a snapshot as a record keeps it
+abbrev pub snapshotIn : Bool → List Bool → Option (ℕ → Bool)
+snapshotIn has set = pick has (some (member set)) none
+
+-- The agreement g on the lists holds what the history has of view v.
+pub record Holds (l : Lent) (g : Agreement) (p : History) (v : ℕ) : Type 0 where
+  pub logs : (i : ℕ) → keptLog (l .names) (l .counts) (logsPlace v) g i ≡ heardLogs (p .heard) v i
+  pub one : snapshotIn (g .hasone) (g .one) ≡ snapshotOf v (heardAt (p .actions) (snapshotOneBeat v))
+  pub two : snapshotIn (g .hastwo) (g .two) ≡ snapshotOf v (heardAt (p .actions) (snapshotTwoBeat v))
+
+-- The proposals g on the lists hold what the history has of view v.
+abbrev pub HoldsProposals : Lent → Proposals → History → ℕ → Type 0
+HoldsProposals l g p v = (i : ℕ) → keptProposal (l .names) (l .counts) proposalsPlace g i ≡ heardProposals (p .proposals) v i
+
+-- Nothing in the history came before its beat; `next` is one more than the beat.
+pub record Since (next : ℕ) (p : History) : Type 0 where
+  pub logs : (m : Content) → List·Memᴰ m (p .heard) → inputBeat (m .view) < next
+  pub proposals : (m : ProposalHeard) → List·Memᴰ m (p .proposals) → viewBeat (m .content .view) < next
+  pub acts : (d : ActRecord) → List·Memᴰ d (p .actions) → d .beat < next
+
+-- Of every view that is open, to LOGs or to PROPOSALs, the same is held.
+pub record Filled (b : Bench) (l : Lent) (p : History) : Type 0 where
+  pub views : (v : ℕ) → v ≤ lastView → b .next ≤ closeBeat v + 1 → Holds l (agreementOf b v) p v
+  pub proposals : (v : ℕ) → v ≤ lastView → b .next ≤ inputBeat v + 1 → HoldsProposals l (proposalsOf b v) p v
+  pub since : Since (b .next) p
+
+-- the lists are long enough, and of the code's types
+pub record Roomy (l : Lent) : Type 0 where
+  pub names : leastLent ≤ length (l .names)
+  pub counts : leastLent ≤ length (l .counts)
+  pub name-bound : AllBelow (2 ^ 64) (l .names)
+  pub count-bound : AllBelow (2 ^ 16) (l .counts)
+
+abbrev pub lastOf : ℕ → Option ℕ
+lastOf zero = none
+lastOf (suc b) = some b
+
+-- what record and lists say of the decided log and of the mark
+abbrev pub standOf : State → Stand
+standOf s = record { log = decidedLog s; parted = s .bench .parted }
+
+pub record Tie (n own : ℕ) (s : State) (p : History) : Type 0 where
+  pub n-is : s .bench .n ≡ n
+  pub own-is : s .bench .own ≡ own
+  pub fine : Fine (s .bench)
+  pub roomy : Roomy (s .lent)
+  pub last-is : lastOf (s .bench .next) ≡ p .last
+  pub gathering-is : not (idle (s .bench)) ≡ p .gathering
+  pub filled : Filled (s .bench) (s .lent) p
+  pub stand-is : standOf s ≡ standIn (p .actions)
+  pub good : GoodHistory n p
+
+-- ---- nothing was done at a beat still to come
+
+pub no-act : (ds : List ActRecord) (b : ℕ) → ((d : ActRecord) → List·Memᴰ d ds → d .beat < b) → heardAt ds b ≡ none
+unfolding heardAt
+no-act [] b h = refl
+no-act (d ∷ ds) b h =
+    let l = h d (List·Memᴰ·head refl) in
+    let e : d .beat ≡ b → ⊥ = λ q. omega arith in
+    rw (ne-eqb (d .beat) b e) (no-act ds b (λ x i. h x (List·Memᴰ·tail i)))

@@ -1,0 +1,213 @@
+-- The four calls by the record and the lent lists, for every record and every pair of lists: what the code is proved equal to, and what demand 3 is
+-- proved of (document 01, "Four calls", "Calendar of acts", "From the state"). In each, the first failure is given, and a refusal leaves record,
+-- lists and buffer as they were. Assumes nothing.
+use Prim.Native.Nat.{ℕ, zero, suc, _+_}
+use mathlib.Core.Bool.{true, not}
+use mathlib.Core.List.{List, []}
+use mathlib.Core.Option.{Option, some, none}
+use lib.Dec.{ltb}
+use lib.ListN.{length}
+use Rattle.message.specs.Choice.{pick}
+use Rattle.message.specs.Numbers.{put}
+use Rattle.message.specs.Logs.{Block, Log, isPrefix, namesOf, countsOf}
+use Rattle.message.specs.Message.{Meaning, logMessage, proposalMessage, bytesOf, Reading, refused as unread, means, readOf}
+use Rattle.message.specs.Store.{logAt}
+use Rattle.agreement.specs.Limits.{mostSenders}
+use Rattle.agreement.specs.Record.{emptyAgreement, withOne, withTwo}
+use Rattle.agreement.specs.Filing.{Word, Filing, fileOf}
+use Rattle.agreement.specs.Grades.{gradeZero, gradeOne, gradeTwo}
+use Rattle.agreement.specs.Proposals.{emptyProposals, ProposalFiling, fileProposalOf}
+use Rattle.agreement.specs.Kept.{keptProposal}
+use Rattle.agreement.specs.Heard.{voteAmong}
+use Rattle.agreement.specs.declared.Agreement.{Agreement}
+use Rattle.agreement.specs.declared.Proposals.{Proposals}
+use Rattle.bench.specs.Layout.{logsPlace, proposalsPlace, decidedPlace, mostBytes, Lent, tooShort, outOfRange, Held}
+use Rattle.bench.specs.Calendar.{lastBeat, logsShut, proposalsShut, viewOf, placeIn, Act, proposing, voting, deciding, looking, actAt}
+use Rattle.bench.specs.Calls.{refused, done, took, acted, Opening, Step, openTo}
+use Rattle.bench.specs.Acts.{Seen, isView, makes, outAfter}
+use Rattle.bench.specs.Record.{freshBench, agreementOf, proposalsOf, beatOf, notAboveLast, idle, withAgreement, withProposals, withGatheringOver, withDecided, withParted, beyond}
+use Rattle.bench.specs.declared.Bench.{Bench}
+
+-- a record and its lent lists
+abbrev pub State : Type 0
+State = Held Bench
+
+-- refused by k: nothing else changes
+abbrev pub refuse : State → List ℕ → ℕ → Step Bench
+refuse s out k = record { held = s; answer = record { reply = refused k; out = out } }
+
+-- ---- Open
+
+-- The record beside a refusal is of no bench: its n is 0, and every call refuses it by 9.
+abbrev pub notOpened : ℕ → Opening Bench
+notOpened k = record { reply = refused k; bench = freshBench 0 0 }
+
+-- 7, 8; the lists are not written
+unfoldable pub openOf : ℕ → ℕ → Lent → Opening Bench
+openOf n own l =
+    pick (outOfRange n own) (notOpened 7)
+    (pick (tooShort l) (notOpened 8)
+    (record { reply = done; bench = freshBench n own }))
+
+-- ---- Begin
+
+-- "Views no longer open are forgotten."
+unfoldable pub keptAgreement : ℕ → Agreement → Agreement
+keptAgreement beat g = pick (logsShut (g .view) beat) (emptyAgreement 0) g
+
+unfoldable pub keptProposals : ℕ → Proposals → Proposals
+keptProposals beat g = pick (proposalsShut (g .view) beat) (emptyProposals 0) g
+
+-- the gathering of the beat is under way
+abbrev pub begunBench : Bench → ℕ → Bench
+begunBench b beat = record {
+  n = b .n;
+  own = b .own;
+  next = beat + 1;
+  gathering = true;
+  even = keptAgreement beat (b .even);
+  odd = keptAgreement beat (b .odd);
+  proposals = keptProposals beat (b .proposals);
+  decided = b .decided;
+  parted = b .parted;
+}
+
+abbrev pub begun : State → ℕ → Step Bench
+begun s beat = record { held = record { bench = begunBench (s .bench) beat; lent = s .lent }; answer = record { reply = done; out = [] } }
+
+-- 9, 8, 10, 20; the lists are not written
+unfoldable pub beginOf : State → ℕ → Step Bench
+beginOf s beat =
+    pick (beyond (s .bench)) (refuse s [] 9)
+    (pick (tooShort (s .lent)) (refuse s [] 8)
+    (pick (ltb lastBeat beat) (refuse s [] 10)
+    (pick (notAboveLast (s .bench) beat) (refuse s [] 20)
+    (begun s beat))))
+
+-- ---- filing
+
+-- the word, and what is held afterwards
+pub record Filed : Type 0 where
+  pub word : Word
+  pub held : State
+
+abbrev pub filedLog : State → ℕ → Filing → Filed
+filedLog s v f = record {
+  word = f .word;
+  held =
+      record { bench = withAgreement (s .bench) v (f .agreement); lent = record { names = f .names; counts = f .counts } };
+}
+
+abbrev pub filedProposal : State → ProposalFiling → Filed
+filedProposal s f = record {
+  word = f .word;
+  held = record { bench = withProposals (s .bench) (f .proposals); lent = record { names = f .names; counts = f .counts } };
+}
+
+-- A message, with its bytes, in the agreement or among the proposals of its view: one rule for messages received and for one's own.
+unfoldable pub fileMessage : State → List ℕ → Meaning → Filed
+fileMessage s bytes (logMessage m) =
+    filedLog s (m .view)
+    (fileOf (agreementOf (s .bench) (m .view)) (s .lent .names) (s .lent .counts) (logsPlace (m .view)) bytes (m .sender))
+fileMessage s bytes (proposalMessage m priority) =
+    filedProposal s
+    (fileProposalOf (proposalsOf (s .bench) (m .view)) (s .lent .names) (s .lent .counts) proposalsPlace bytes (m .sender) priority)
+
+-- ---- Receive
+
+abbrev pub taken : Filed → Step Bench
+taken f = record { held = f .held; answer = record { reply = took (f .word); out = [] } }
+
+-- 1 to 6, 21
+abbrev pub receives : State → List ℕ → Reading → Step Bench
+receives s bytes (unread k) = refuse s [] k
+receives s bytes (means m) = pick (not (openTo m (beatOf (s .bench)))) (refuse s [] 21) (taken (fileMessage s bytes m))
+
+-- 9, 8, 22, 1 to 6, 21
+unfoldable pub receiveOf : State → List ℕ → Step Bench
+receiveOf s bytes =
+    pick (beyond (s .bench)) (refuse s [] 9)
+    (pick (tooShort (s .lent)) (refuse s [] 8)
+    (pick (idle (s .bench)) (refuse s [] 22)
+    (receives s bytes (readOf (s .bench .n) bytes))))
+
+-- ---- what an act of view v sees
+
+-- grade 0 of GA v-1; the empty log for v = 0
+unfoldable pub candidateOf : State → ℕ → Option Log
+candidateOf s zero = some []
+candidateOf s (suc u) = gradeZero (s .lent .names) (s .lent .counts) (logsPlace u) (agreementOf (s .bench) u)
+
+-- grade 1, with snapshot two; the empty log for v = 0
+unfoldable pub lockOf : State → ℕ → Option Log
+lockOf s zero = some []
+lockOf s (suc u) = gradeOne (s .lent .names) (s .lent .counts) (logsPlace u) (agreementOf (s .bench) u)
+
+-- grade 2, with snapshot one; none for v = 0
+unfoldable pub decisionOf : State → ℕ → Option Log
+decisionOf s zero = none
+decisionOf s (suc u) = gradeTwo (s .lent .names) (s .lent .counts) (logsPlace u) (agreementOf (s .bench) u)
+
+abbrev pub seenOf : State → ℕ → Seen
+seenOf s v = record {
+  candidate = candidateOf s v;
+  lock = lockOf s v;
+  decision = decisionOf s v;
+  choose = voteAmong mostSenders (keptProposal (s .lent .names) (s .lent .counts) proposalsPlace (proposalsOf (s .bench) v));
+}
+
+-- ---- Act
+
+-- the decided log as record and lists hold it
+abbrev pub decidedLog : State → Log
+decidedLog s = logAt (s .lent .names) (s .lent .counts) decidedPlace (s .bench .decided)
+
+-- a decision: it extends the decided log and replaces it, is a prefix of it, or sets the mark
+unfoldable pub settled : State → Option Log → State
+settled s none = s
+settled s (some L) =
+    pick (isPrefix (decidedLog s) L)
+    (record {
+      bench = withDecided (s .bench) (length L);
+      lent = record { names = put (s .lent .names) decidedPlace (namesOf L); counts = put (s .lent .counts) decidedPlace (countsOf L) };
+    })
+    (pick (isPrefix L (decidedLog s)) s (record { bench = withParted (s .bench); lent = s .lent }))
+
+-- the snapshots of GA v
+unfoldable pub snappedOne : ℕ → State → State
+snappedOne v s =
+    pick (isView v) (record { bench = withAgreement (s .bench) v (withOne (agreementOf (s .bench) v)); lent = s .lent }) s
+
+unfoldable pub snappedTwo : ℕ → State → State
+snappedTwo v s =
+    pick (isView v) (record { bench = withAgreement (s .bench) v (withTwo (agreementOf (s .bench) v)); lent = s .lent }) s
+
+-- what an act changes besides filing what it makes: at 4v+2 it decides first, and then takes snapshot one
+unfoldable pub changed : State → ℕ → Act → State
+changed s v proposing = s
+changed s v voting = s
+changed s v deciding = snappedOne v (settled s (decisionOf s v))
+changed s v looking = snappedTwo v s
+
+-- what is made is filed from its bytes
+abbrev pub withMade : State → Option Meaning → State
+withMade s none = s
+withMade s (some m) = fileMessage s (bytesOf m) m .held
+
+-- the act of a row of the calendar, in view v, once the gathering is over
+unfoldable pub actedOf : State → Block → ℕ → List ℕ → ℕ → Act → Step Bench
+actedOf s block priority out v a =
+    let made : Option Meaning = makes (s .bench .own) v block priority (seenOf s v) a in
+    record { held = withMade (changed s v a) made; answer = record { reply = acted made; out = outAfter made out } }
+
+abbrev pub over : State → State
+over s = record { bench = withGatheringOver (s .bench); lent = s .lent }
+
+-- 9, 8, 11, 22
+unfoldable pub actOf : State → Block → ℕ → List ℕ → Step Bench
+actOf s block priority out =
+    pick (beyond (s .bench)) (refuse s out 9)
+    (pick (tooShort (s .lent)) (refuse s out 8)
+    (pick (ltb (length out) mostBytes) (refuse s out 11)
+    (pick (idle (s .bench)) (refuse s out 22)
+    (actedOf (over s) block priority out (viewOf (beatOf (s .bench))) (actAt (placeIn (beatOf (s .bench))))))))

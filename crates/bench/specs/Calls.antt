@@ -1,0 +1,69 @@
+-- The calls with what was handed in, and what they give back (document 01, "Four calls" and the words on demand 3). Assumes nothing.
+use Prim.Native.Nat.{ℕ, _^_, _<_}
+use mathlib.Core.Bool.{Bool}
+use mathlib.Core.List.{List, [], _∷_}
+use mathlib.Core.Option.{Option}
+use lib.ListN.{length}
+use Rattle.message.specs.Numbers.{AllBelow}
+use Rattle.message.specs.Logs.{Block}
+use Rattle.message.specs.Message.{Meaning, logMessage, proposalMessage}
+use Rattle.agreement.specs.Filing.{Word}
+use Rattle.bench.specs.Calendar.{logWindow, proposalWindow}
+use Rattle.bench.specs.Layout.{Lent, Held}
+
+-- A beat; a message by its bytes, wherever they lay; an offered block (name zero for none), a priority and the outgoing buffer.
+pub data Call : Type 0 where
+  begin : ℕ → Call
+  receive : List ℕ → Call
+  act : Block → ℕ → List ℕ → Call
+
+-- the outgoing buffer handed in; Begin and Receive have none
+abbrev pub bufferIn : Call → List ℕ
+bufferIn (begin b) = []
+bufferIn (receive bytes) = []
+bufferIn (act block priority out) = out
+
+-- What a call answers: a refusal's number alone; that it opened or began; the word on a message taken; what an Act made.
+pub data Reply : Type 0 where
+  refused : ℕ → Reply
+  done : Reply
+  took : Word → Reply
+  acted : Option Meaning → Reply
+
+-- An answer, and what the outgoing buffer holds afterwards.
+pub record Answer : Type 0 where
+  pub reply : Reply
+  pub out : List ℕ
+
+-- What Open gives; what each other call leaves and answers.
+pub record Opening (B : Type 0) : Type 0 where
+  pub reply : Reply
+  pub bench : B
+
+pub record Step (B : Type 0) : Type 0 where
+  pub held : Held B
+  pub answer : Answer
+
+-- 21: whether a message's view is open to its kind at a beat
+abbrev pub openTo : Meaning → ℕ → Bool
+openTo (logMessage m) b = logWindow (m .view) b
+openTo (proposalMessage m priority) b = proposalWindow (m .view) b
+
+-- ---- the code's types: there are no other calls
+
+abbrev pub Typed : Call → Type 0
+Typed (begin b) = b < 2 ^ 32
+Typed (receive bytes) = AllBelow 256 bytes × (length bytes < 2 ^ 64)
+Typed (act block priority out) =
+    (block .name < 2 ^ 64) × (block .count < 2 ^ 16) × (priority < 2 ^ 64) × AllBelow 256 out × (length out < 2 ^ 64)
+
+abbrev pub AllTyped : List Call → Type 0
+AllTyped [] = Unit {0}
+AllTyped (c ∷ cs) = Typed c × AllTyped cs
+
+-- what is handed to Open: n and own number of a byte each, names of 64 bits, counts of 16
+pub record TypedOpen (n own : ℕ) (l : Lent) : Type 0 where
+  pub n-fits : n < 2 ^ 8
+  pub own-fits : own < 2 ^ 8
+  pub names : AllBelow (2 ^ 64) (l .names) × (length (l .names) < 2 ^ 64)
+  pub counts : AllBelow (2 ^ 16) (l .counts) × (length (l .counts) < 2 ^ 64)

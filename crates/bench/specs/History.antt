@@ -1,0 +1,243 @@
+-- One bench by its history: what it is to answer, make and decide, worked out from its list of calls and from nothing else (document 01, the words
+-- on demand 3 after the calendar). Nothing is forgotten here; a view that is no longer open is read by no later act. Assumes nothing.
+use Prim.Native.Nat.{ℕ, zero, suc}
+use mathlib.Core.Bool.{Bool, true, false, not, _||_}
+use mathlib.Core.List.{List, [], _∷_}
+use mathlib.Core.Option.{Option, some, none}
+use lib.Dec.{eqb, leb, ltb}
+use lib.ListN.{length}
+use Rattle.message.specs.Choice.{pick}
+use Rattle.message.specs.Logs.{Block, Log, sameLog}
+use Rattle.message.specs.Message.{Content, Meaning, logMessage, proposalMessage, Reading, refused as unread, means, readOf}
+use Rattle.agreement.specs.Filing.{Word}
+use Rattle.agreement.specs.Kept.{wordOn, sameProposal}
+use Rattle.agreement.specs.Heard.{heardLogs, votersOf, gradeNow, gradeWith, ProposalHeard, heardProposals, voteAmong}
+use Rattle.bench.specs.Layout.{Lent, tooShort, outOfRange, mostBytes}
+use Rattle.bench.specs.Calendar.{lastBeat, snapshotOneBeat, snapshotTwoBeat, viewOf, placeIn, actAt}
+use Rattle.bench.specs.Calls.{Call, begin, receive, act, bufferIn, Reply, refused, done, took, acted, Answer, openTo}
+use Rattle.bench.specs.Acts.{Seen, makes, outAfter, decides, Stand, settle}
+
+-- ---- the history
+
+-- An Act, not refused: its beat, the LOGs taken or made before it, what it made, and the log it had to decide.
+pub record ActRecord : Type 0 where
+  pub beat : ℕ
+  pub heard : List Content
+  pub made : Option Meaning
+  pub decided : Option Log
+
+-- What the calls so far come to, the newest first in each list:
+--   last       the last begun beat
+--   gathering  one is under way: "from a Begin to the next Begin or Act, refused ones skipped"
+--   heard      the LOGs taken or made
+--   proposals  the PROPOSALs taken or made
+--   actions    the Acts
+pub record History : Type 0 where
+  pub last : Option ℕ
+  pub gathering : Bool
+  pub heard : List Content
+  pub proposals : List ProposalHeard
+  pub actions : List ActRecord
+
+-- as Open gives it
+abbrev pub fresh : History
+fresh = record { last = none; gathering = false; heard = []; proposals = []; actions = [] }
+
+-- the beat of the last Begin; where there is none, no message is taken and no act done
+abbrev pub orZero : Option ℕ → ℕ
+orZero none = 0
+orZero (some b) = b
+
+abbrev pub beatNow : History → ℕ
+beatNow p = orZero (p .last)
+
+-- ---- refusals: 9 never arises here, and 8 at Open only
+
+-- Open: 7, n or own number out of range; 8, a lent list too short
+unfoldable pub openRefusal : ℕ → ℕ → Lent → Option ℕ
+openRefusal n own l = pick (outOfRange n own) (some 7) (pick (tooShort l) (some 8) none)
+
+abbrev pub notAbove : ℕ → Option ℕ → Bool
+notAbove b none = false
+notAbove b (some last) = leb b last
+
+-- Begin: 10, a beat past the last; 20, not above the last begun
+abbrev pub beginRefusal : History → ℕ → Option ℕ
+beginRefusal p b = pick (ltb lastBeat b) (some 10) (pick (notAbove b (p .last)) (some 20) none)
+
+-- Receive: 22, no gathering under way; 1 to 6 by the message; 21, its view not open to its kind at this beat
+abbrev pub readingRefusal : ℕ → Reading → Option ℕ
+readingRefusal b (unread k) = some k
+readingRefusal b (means m) = pick (not (openTo m b)) (some 21) none
+
+abbrev pub receiveRefusal : ℕ → History → List ℕ → Option ℕ
+receiveRefusal n p bytes = pick (not (p .gathering)) (some 22) (readingRefusal (beatNow p) (readOf n bytes))
+
+-- Act: 11, an outgoing buffer too short for the longest message; 22
+abbrev pub actRefusal : History → List ℕ → Option ℕ
+actRefusal p out = pick (ltb (length out) mostBytes) (some 11) (pick (not (p .gathering)) (some 22) none)
+
+unfoldable pub refusal : ℕ → History → Call → Option ℕ
+refusal n p (begin b) = beginRefusal p b
+refusal n p (receive bytes) = receiveRefusal n p bytes
+refusal n p (act block priority out) = actRefusal p out
+
+-- ---- filing
+
+-- the answer to a message taken, by what its sender's of that kind and view come to so far
+unfoldable pub wordFor : History → Meaning → Word
+wordFor p (logMessage m) = wordOn sameLog (heardLogs (p .heard) (m .view) (m .sender)) (m .log)
+wordFor p (proposalMessage m priority) =
+    wordOn sameProposal (heardProposals (p .proposals) (m .view) (m .sender)) (record { log = m .log; priority = priority })
+
+-- A message taken, or made, is one more of those so far: own messages are filed by the receive rules.
+unfoldable pub file : History → Meaning → History
+file p (logMessage m) =
+    record { last = p .last; gathering = p .gathering; heard = m ∷ p .heard; proposals = p .proposals; actions = p .actions }
+file p (proposalMessage m priority) =
+    record {
+      last = p .last;
+      gathering = p .gathering;
+      heard = p .heard;
+      proposals = record { content = m; priority = priority } ∷ p .proposals;
+      actions = p .actions;
+    }
+
+-- ---- what an act sees
+
+-- the LOGs heard by the act of beat b, if there was one
+unfoldable pub heardAt : List ActRecord → ℕ → Option (List Content)
+heardAt [] b = none
+heardAt (d ∷ ds) b = pick (eqb (d .beat) b) (some (d .heard)) (heardAt ds b)
+
+-- a snapshot of GA u: V of what was heard by then, taken only by a bench acting then
+abbrev pub snapshotOf : ℕ → Option (List Content) → Option (ℕ → Bool)
+snapshotOf u none = none
+snapshotOf u (some heard) = some (votersOf (heardLogs heard u))
+
+-- the longest log of grade 0 of GA v-1; the empty log for v = 0
+unfoldable pub candidateAt : ℕ → History → ℕ → Option Log
+candidateAt n p zero = some []
+candidateAt n p (suc u) = gradeNow n (heardLogs (p .heard) u)
+
+-- of grade 1, with snapshot two; the empty log for v = 0
+unfoldable pub lockAt : ℕ → History → ℕ → Option Log
+lockAt n p zero = some []
+lockAt n p (suc u) = gradeWith n (heardLogs (p .heard) u) (snapshotOf u (heardAt (p .actions) (snapshotTwoBeat u)))
+
+-- of grade 2, with snapshot one; none for v = 0
+unfoldable pub decisionAt : ℕ → History → ℕ → Option Log
+decisionAt n p zero = none
+decisionAt n p (suc u) = gradeWith n (heardLogs (p .heard) u) (snapshotOf u (heardAt (p .actions) (snapshotOneBeat u)))
+
+abbrev pub seenAt : ℕ → History → ℕ → Seen
+seenAt n p v = record {
+  candidate = candidateAt n p v;
+  lock = lockAt n p v;
+  decision = decisionAt n p v;
+  choose = voteAmong n (heardProposals (p .proposals) v);
+}
+
+-- what an Act makes and decides at the beat that it is
+unfoldable pub madeBy : ℕ → ℕ → History → Block → ℕ → Option Meaning
+madeBy n own p block priority =
+    makes own (viewOf (beatNow p)) block priority (seenAt n p (viewOf (beatNow p))) (actAt (placeIn (beatNow p)))
+
+unfoldable pub decidedBy : ℕ → History → Option Log
+decidedBy n p = decides (seenAt n p (viewOf (beatNow p))) (actAt (placeIn (beatNow p)))
+
+-- ---- one call
+
+abbrev pub fileRead : History → Reading → History
+fileRead p (unread k) = p
+fileRead p (means m) = file p m
+
+abbrev pub fileMade : History → Option Meaning → History
+fileMade p none = p
+fileMade p (some m) = file p m
+
+-- an Act ends the gathering, and is one more of the Acts so far
+abbrev pub closed : History → Option Meaning → Option Log → History
+closed p made decided =
+    record {
+      last = p .last;
+      gathering = false;
+      heard = p .heard;
+      proposals = p .proposals;
+      actions = record { beat = beatNow p; heard = p .heard; made = made; decided = decided } ∷ p .actions;
+    }
+
+-- a call that is not refused: the history after it
+unfoldable pub accepted : ℕ → ℕ → History → Call → History
+accepted n own p (begin b) =
+    record { last = some b; gathering = true; heard = p .heard; proposals = p .proposals; actions = p .actions }
+accepted n own p (receive bytes) = fileRead p (readOf n bytes)
+accepted n own p (act block priority out) =
+    fileMade (closed p (madeBy n own p block priority) (decidedBy n p)) (madeBy n own p block priority)
+
+-- and what it answers
+abbrev pub wordRead : History → Reading → Reply
+wordRead p (unread k) = refused k
+wordRead p (means m) = took (wordFor p m)
+
+unfoldable pub acceptedAnswer : ℕ → ℕ → History → Call → Answer
+acceptedAnswer n own p (begin b) = record { reply = done; out = [] }
+acceptedAnswer n own p (receive bytes) = record { reply = wordRead p (readOf n bytes); out = [] }
+acceptedAnswer n own p (act block priority out) =
+    record { reply = acted (madeBy n own p block priority); out = outAfter (madeBy n own p block priority) out }
+
+-- A refusal changes nothing, and answers its number alone.
+abbrev pub orAccepted : Option ℕ → History → History → History
+orAccepted none p q = q
+orAccepted (some k) p q = p
+
+abbrev pub orAnswered : Option ℕ → List ℕ → Answer → Answer
+orAnswered none out a = a
+orAnswered (some k) out a = record { reply = refused k; out = out }
+
+unfoldable pub step : ℕ → ℕ → History → Call → History
+step n own p c = orAccepted (refusal n p c) p (accepted n own p c)
+
+unfoldable pub answer : ℕ → ℕ → History → Call → Answer
+answer n own p c = orAnswered (refusal n p c) (bufferIn c) (acceptedAnswer n own p c)
+
+-- ---- a list of calls
+
+unfoldable pub afterFrom : ℕ → ℕ → History → List Call → History
+afterFrom n own p [] = p
+afterFrom n own p (c ∷ cs) = afterFrom n own (step n own p c) cs
+
+unfoldable pub after : ℕ → ℕ → List Call → History
+after n own cs = afterFrom n own fresh cs
+
+unfoldable pub answersFrom : ℕ → ℕ → History → List Call → List Answer
+answersFrom n own p [] = []
+answersFrom n own p (c ∷ cs) = answer n own p c ∷ answersFrom n own (step n own p c) cs
+
+unfoldable pub answersTo : ℕ → ℕ → List Call → List Answer
+answersTo n own cs = answersFrom n own fresh cs
+
+-- awake at a beat: begun and acted in, neither call refused
+unfoldable pub actedAt : List ActRecord → ℕ → Bool
+actedAt [] b = false
+actedAt (d ∷ ds) b = eqb (d .beat) b || actedAt ds b
+
+unfoldable pub awake : ℕ → ℕ → List Call → ℕ → Bool
+awake n own cs b = actedAt (after n own cs .actions) b
+
+-- the logs decided, "even where this changes nothing"
+abbrev pub keepSome : Option Log → List Log → List Log
+keepSome none Ls = Ls
+keepSome (some L) Ls = L ∷ Ls
+
+unfoldable pub decidedIn : List ActRecord → List Log
+decidedIn [] = []
+decidedIn (d ∷ ds) = keepSome (d .decided) (decidedIn ds)
+
+-- what the decisions come to
+unfoldable pub standIn : List ActRecord → Stand
+standIn [] = record { log = []; parted = false }
+standIn (d ∷ ds) = settle (standIn ds) (d .decided)
+
+unfoldable pub stand : ℕ → ℕ → List Call → Stand
+stand n own cs = standIn (after n own cs .actions)

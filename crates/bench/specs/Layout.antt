@@ -1,0 +1,48 @@
+-- Where logs stand in the two lent lists, and what is held between two calls (document 01, "Four calls"). Assumes nothing.
+use Prim.Native.Nat.{ℕ, _+_, _*_, _%_}
+use mathlib.Core.Bool.{Bool, _||_}
+use mathlib.Core.List.{List}
+use lib.Dec.{eqb, leb, ltb}
+use lib.ListN.{length}
+use Rattle.message.specs.Choice.{pick}
+use Rattle.message.specs.Limits.{mostBlocks, headLength, blockWidth}
+use Rattle.agreement.specs.Limits.{mostSenders, span}
+
+-- "two agreements of 32 logs, 32 proposed logs, one decided log, 64 blocks apiece": those of the even view first, then of the odd
+abbrev pub isEven : ℕ → Bool
+isEven v = eqb (v % 2) 0
+
+abbrev pub logsPlace : ℕ → ℕ
+logsPlace v = pick (isEven v) 0 span
+
+abbrev pub proposalsPlace : ℕ
+proposalsPlace = 2 * span
+
+abbrev pub decidedPlace : ℕ
+decidedPlace = 3 * span
+
+-- "at least 6,208 of each"
+abbrev pub leastLent : ℕ
+leastLent = decidedPlace + mostBlocks
+
+-- the longest message: 656 bytes
+abbrev pub mostBytes : ℕ
+mostBytes = headLength + blockWidth * mostBlocks
+
+-- the two lent lists: block names and entry counts
+pub record Lent : Type 0 where
+  pub names : List ℕ
+  pub counts : List ℕ
+
+-- 8: a lent list is too short
+abbrev pub tooShort : Lent → Bool
+tooShort l = ltb (length (l .names)) leastLent || ltb (length (l .counts)) leastLent
+
+-- 7 and 9: n is not 1 to 32, or the own number not below n
+abbrev pub outOfRange : ℕ → ℕ → Bool
+outOfRange n own = eqb n 0 || (ltb mostSenders n || leb n own)
+
+-- what stands between two calls: the record, of whatever type, and the lent lists
+pub record Held (B : Type 0) : Type 0 where
+  pub bench : B
+  pub lent : Lent

@@ -1,0 +1,243 @@
+-- The premises of demand 3 as tests of a volume that is written out, to be computed: a test that holds gives the premise. Assumes nothing.
+use Prim.Native.Nat.{ℕ, _≤_}
+use native.Mathlib.Omega.{arith}
+use mathlib.Core.Path.{_≡_, refl, sym, ap, subst, _∙_}
+use mathlib.Core.Logic.{_⊎_, inl, inr}
+use mathlib.Core.List.{List, [], _∷_, _++_, append-nil, append-assoc, List·Memᴰ as Mem, List·Memᴰ·head, Memᴰ·cast, Memᴰ·append-left, Memᴰ·append-right}
+use mathlib.Core.Option.{Option, some, none}
+use mathlib.Core.Bool.{Bool, true, false, not, _&&_, false≢true, and-eq-true-iff}
+use lib.Dec.{eqb, leb, ltb}
+use borrow.Author.Tests.{eqb-true, ne-eqb, ltb-true, lt-ltb, le-leb}
+use Rattle.message.specs.Logs.{sameLog}
+use Rattle.message.specs.Message.{Content, Meaning, logMessage, proposalMessage, Reading, refused, means, readOf}
+use Rattle.message.proofs.LogLaws.{sameLog-iff}
+use Rattle.agreement.specs.Sets.{count}
+use Rattle.agreement.specs.Filing.{Word, first, second, known}
+use Rattle.bench.specs.Calendar.{viewBeat, closeBeat}
+use Rattle.bench.specs.Calls.{Call, begin, receive, act, openTo}
+use Rattle.bench.specs.History.{History, ActRecord, fresh, beatNow, refusal, file, wordFor, accepted, madeBy, step, after, afterFrom}
+use Rattle.bench.proofs.CallLaws.{receive-ok, taken-reply, took-injective, accepted-receive, recordOf}
+use Rattle.run.specs.Places.{Begins, MakesAfter, Sends, makes, passesOn, With}
+use Rattle.run.specs.Premises.{Volume, Delivery, Numbers, Majority, counted, breaker}
+use Rattle.run.proofs.ListTests.{all, all-use, any, any-use, allBelow, below-use, implies, implies-use}
+use Rattle.run.proofs.Starts.{after-append, after-ok}
+use Rattle.run.proofs.Beats.{UpTo, upTo-now, heard-grow, act-recorded, beat-is}
+use Rattle.run.proofs.HeardFrom.{taken, made, heard-from, made-vote}
+use Rattle.run.proofs.ActPlaces.{ActPlace, act-place}
+use Rattle.run.proofs.Taking.{upTo-from}
+
+-- ---- what a bench makes or passes on, as a list
+
+pub record SentLog : Type 0 where
+  pub beat : ℕ
+  pub content : Content
+
+abbrev pub isNew : Word → Bool
+isNew first = true
+isNew second = true
+isNew known = false
+
+abbrev pub onlyIf : Bool → SentLog → List SentLog
+onlyIf true l = l ∷ []
+onlyIf false l = []
+
+-- of a message read, and of one made
+unfoldable pub sentRead : History → Reading → List SentLog
+sentRead p (refused k) = []
+sentRead p (means (logMessage m)) = onlyIf (isNew (wordFor p (logMessage m))) (record { beat = beatNow p; content = m })
+sentRead p (means (proposalMessage m priority)) = []
+
+unfoldable pub sentMade : History → Option Meaning → List SentLog
+sentMade p none = []
+sentMade p (some (logMessage m)) = record { beat = beatNow p; content = m } ∷ []
+sentMade p (some (proposalMessage m priority)) = []
+
+abbrev pub unlessRefused : Option ℕ → List SentLog → List SentLog
+unlessRefused none l = l
+unlessRefused (some k) l = []
+
+-- by one call, and by a list of calls
+unfoldable pub sentBy : ℕ → ℕ → History → Call → List SentLog
+sentBy n own p (begin b) = []
+sentBy n own p (receive bytes) = unlessRefused (refusal n p (receive bytes)) (sentRead p (readOf n bytes))
+sentBy n own p (act block priority out) = unlessRefused (refusal n p (act block priority out)) (sentMade p (madeBy n own p block priority))
+
+unfoldable pub sentList : ℕ → ℕ → History → List Call → List SentLog
+sentList n own p [] = []
+sentList n own p (c ∷ cs) = sentBy n own p c ++ sentList n own (step n own p c) cs
+
+sentBy-listed : (n own : ℕ) (pre : List Call) (c : Call) (post : List Call) (p : History) (l : SentLog)
+    → Mem l (sentBy n own (afterFrom n own p pre) c) → Mem l (sentList n own p (pre ++ (c ∷ post)))
+unfolding sentList afterFrom
+sentBy-listed n own [] c post p l i = Memᴰ·append-left (sentList n own (step n own p c) post) i
+sentBy-listed n own (x ∷ xs) c post p l i = Memᴰ·append-right (sentBy n own p x) (sentBy-listed n own xs c post (step n own p x) l i)
+
+new-is : (w : Word) → (w ≡ first) ⊎ (w ≡ second) → isNew w ≡ true
+new-is w (inl e) = rw e
+new-is w (inr e) = rw e
+
+at-beat : (p : History) (b : ℕ) (m : Content) → p .last ≡ some b → _≡_ {A = SentLog} (record { beat = b; content = m }) (record { beat = beatNow p; content = m })
+at-beat p b m e = ap {B = SentLog} (λ (k : ℕ). record { beat = k; content = m }) (sym (beat-is p b e))
+
+sends-listed : (n own : ℕ) (cs : List Call) (b : ℕ) (m : Content) → Sends n own cs b m → Mem (record { beat = b; content = m }) (sentList n own fresh cs)
+unfolding sentBy sentRead sentMade after
+sends-listed n own cs b m (makes pre t) =
+    rw (t .place .1)
+    (sentBy-listed n own pre (act (t .block) (t .priority) (t .out)) (t .place .0) fresh (record { beat = b; content = m })
+    (rw (t .ok, t .made) (List·Memᴰ·head (at-beat (after n own pre) b m (t .beat)))))
+sends-listed n own cs b m (passesOn pre t f) =
+    let p = after n own pre in
+    let q = taken-reply n own p (t .bytes) (logMessage m) (t .ok) (t .read) in
+    let g : (wordFor p (logMessage m) ≡ first) ⊎ (wordFor p (logMessage m) ≡ second) =
+    elim f [ inl e ↦ inl (took-injective _ _ (sym q ∙ e)) | inr e ↦ inr (took-injective _ _ (sym q ∙ e)) ] in
+    rw (t .place .1)
+    (sentBy-listed n own pre (receive (t .bytes)) (t .place .0) fresh (record { beat = b; content = m })
+    (rw (t .ok, t .read) (rw (new-is (wordFor p (logMessage m)) g) (List·Memᴰ·head (at-beat p b m (t .beat))))))
+
+-- ---- delivery
+
+unfoldable pub sameContent : Content → Content → Bool
+sameContent m k = eqb (m .sender) (k .sender) && (eqb (m .view) (k .view) && sameLog (m .log) (k .log))
+
+sameContent-eq : (m k : Content) → sameContent m k ≡ true → m ≡ k
+unfolding sameContent
+sameContent-eq m k e =
+    let x = and-eq-true-iff _ _ .0 e in
+    let y = and-eq-true-iff _ _ .0 (x .1) in
+    let s = eqb-true (m .sender) (k .sender) (x .0) in
+    let v = eqb-true (m .view) (k .view) (y .0) in
+    let l = sameLog-iff (m .log) (k .log) .0 (y .1) in
+    λ i. record { sender = s i; view = v i; log = l i }
+
+among : (m : Content) (l : List Content) → any (sameContent m) l ≡ true → Mem m l
+among m l e = let z = any-use (sameContent m) l e in Memᴰ·cast (sameContent-eq m (z .0) (z .2)) (z .1)
+
+-- a LOG sent is heard by each act of a later beat within its window, but by its sender's own
+abbrev pub arrivedBy : ℕ → SentLog → ActRecord → Bool
+arrivedBy q l d =
+    implies (ltb (l .beat) (d .beat) && (leb (d .beat) (closeBeat (l .content .view)) && not (eqb (l .content .sender) q)))
+    (any (sameContent (l .content)) (d .heard))
+
+unfoldable pub deliveredb : Volume → Bool
+deliveredb W =
+    allBelow (W .n) (λ (p : ℕ).
+    allBelow (W .n) (λ (q : ℕ).
+    implies (W .keeper p && (W .keeper q && not (eqb p q)))
+    (all (λ (l : SentLog). all (arrivedBy q l) (after (W .n) q (W .calls q) .actions)) (sentList (W .n) p fresh (W .calls p)))))
+
+not-eqb : (a b : ℕ) → (a ≡ b → ⊥) → not (eqb a b) ≡ true
+not-eqb a b h = rw (ne-eqb a b h)
+
+means-injective : (m k : Meaning) → means m ≡ means k → m ≡ k
+means-injective m k e = cc
+
+-- a LOG heard that is not a bench's own is with it
+heard-with : (n own : ℕ) (pre : List Call) (m : Content) → Mem m (after n own pre .heard) → (m .sender ≡ own → ⊥) → With n own pre m
+heard-with n own pre m i o = elim (heard-from n own pre pre [] (sym (append-nil pre)) m i) [
+  | taken start c t u ↦ let r = receive-ok n (after n own start) (t .bytes) (t .ok) in
+      let f : r .message ≡ logMessage m = means-injective (r .message) (logMessage m) (sym (r .read) ∙ t .read) in
+      record {
+        before = start;
+        bytes = t .bytes;
+        place = t .place;
+        read = t .read;
+        gathering = r .gathering;
+        inWindow = subst (λ (x : Meaning). openTo x (beatNow (after n own start)) ≡ true) f (r .inWindow);
+      }
+  | made start c t u ↦ absurd (o (made-vote n own (after n own start) (t .block) (t .priority) m (t .made) .sender))
+]
+
+pub delivered : (W : Volume) → deliveredb W ≡ true → Delivery W
+unfolding deliveredb
+delivered W e p q kp kq d b m s pre b′ a l gap u o =
+    let n = W .n in
+    let c = act (a .block) (a .priority) (a .out) in
+    let now = after n q pre in
+    let action = recordOf n q now (a .block) (a .priority) in
+    let whole : W .calls q ≡ (pre ++ (c ∷ [])) ++ a .place .0 = a .place .1 ∙ sym (append-assoc pre (c ∷ []) (a .place .0)) in
+    let i : Mem action (after n q (W .calls q) .actions) =
+    subst (λ (cs : List Call). Mem action (after n q cs .actions)) (sym whole) (act-recorded n q pre (a .place .0) (a .block) (a .priority) (a .out) (a .ok)) in
+    let both : (W .keeper p && (W .keeper q && not (eqb p q))) ≡ true = rw (kp .1, kq .1, not-eqb p q d) in
+    let x = implies-use _ _ (below-use n _ (below-use n _ e p (kp .0)) q (kq .0)) both in
+    let y = all-use _ _ (all-use _ _ x (record { beat = b; content = m }) (sends-listed n p (W .calls p) b m s)) action i in
+    let owed : (ltb b (beatNow now) && (leb (beatNow now) (closeBeat (m .view)) && not (eqb (m .sender) q))) ≡ true =
+    rw (beat-is now b′ (a .beat), lt-ltb b b′ l, le-leb b′ (closeBeat (m .view)) u, not-eqb (m .sender) q o) in
+    heard-with n q pre m (among m (now .heard) (implies-use _ _ y owed)) o
+
+-- ---- numbers
+
+unfoldable pub madeIt : Content → Option Meaning → Bool
+madeIt m none = false
+madeIt m (some (logMessage k)) = sameContent k m
+madeIt m (some (proposalMessage k priority)) = false
+
+madeIt-eq : (m : Content) (o : Option Meaning) → madeIt m o ≡ true → o ≡ some (logMessage m)
+unfolding madeIt
+madeIt-eq m none e = absurd (false≢true e)
+madeIt-eq m (some (logMessage k)) e = ap {B = Option Meaning} (λ (x : Content). some (logMessage x)) (sameContent-eq k m e)
+madeIt-eq m (some (proposalMessage k priority)) e = absurd (false≢true e)
+
+-- an act of the list made the LOG
+unfoldable pub actMade : ℕ → ℕ → List Call → Content → Bool
+actMade n own cs m = any (λ (d : ActRecord). madeIt m (d .made)) (after n own cs .actions)
+
+act-made : (n own : ℕ) (cs : List Call) (m : Content) → actMade n own cs m ≡ true → (pre : List Call) × (b : ℕ) × MakesAfter n own cs pre b m
+unfolding actMade
+act-made n own cs m e =
+    let z = any-use (λ (d : ActRecord). madeIt m (d .made)) (after n own cs .actions) e in
+    at-place (z .0) (act-place n own cs cs [] (sym (append-nil cs)) (z .0) (z .1)) (z .2)
+  where
+    at-place : (d : ActRecord) → ActPlace n own cs d → madeIt m (d .made) ≡ true → (pre : List Call) × (b : ℕ) × MakesAfter n own cs pre b m
+    at-place d x q =
+        let a = x .acts in
+        let w = sym (x .made) ∙ madeIt-eq m (d .made) q in
+        (x .pre, d .beat, record { block = a .block; priority = a .priority; out = a .out; place = a .place; ok = a .ok; beat = a .beat; made = w })
+
+unfoldable pub numberedb : Volume → Bool
+numberedb W =
+    allBelow (W .n) (λ (q : ℕ).
+    implies (W .keeper q)
+    (all (λ (m : Content). implies (W .keeper (m .sender)) (actMade (W .n) (m .sender) (W .calls (m .sender)) m)) (after (W .n) q (W .calls q) .heard)))
+
+pub numbered : (W : Volume) → numberedb W ≡ true → Numbers W
+unfolding numberedb file
+numbered W e p q kp kq pre b m t s =
+    let n = W .n in
+    let c = receive (t .bytes) in
+    let whole : W .calls q ≡ (pre ++ (c ∷ [])) ++ t .place .0 = t .place .1 ∙ sym (append-assoc pre (c ∷ []) (t .place .0)) in
+    let new : Mem m (after n q (pre ++ (c ∷ [])) .heard) =
+    subst (λ (g : History). Mem m (g .heard)) (sym (after-ok n q pre c (t .ok) ∙ accepted-receive n q (after n q pre) (t .bytes) (logMessage m) (t .read)))
+    (List·Memᴰ·head refl) in
+    let i : Mem m (after n q (W .calls q) .heard) =
+    subst (λ (cs : List Call). Mem m (after n q cs .heard)) (sym whole) (heard-grow n q (pre ++ (c ∷ [])) (t .place .0) m new) in
+    let x = implies-use _ _ (below-use n _ e q (kq .0)) (kq .1) in
+    let y = implies-use _ _ (all-use _ _ x m i) (ap (λ (z : ℕ). W .keeper z) s ∙ kp .1) in
+    act-made n p (W .calls p) m (subst (λ (k : ℕ). actMade n k (W .calls k) m ≡ true) s y)
+
+-- ---- the majority
+
+-- no rule-keeper begins a beat of view `top` or of a later one, and in each view below it the rule-breakers are outnumbered
+unfoldable pub majorityb : Volume → ℕ → Bool
+majorityb W top =
+    allBelow (W .n) (λ (i : ℕ). implies (W .keeper i) (ltb (beatNow (after (W .n) i (W .calls i))) (viewBeat top)))
+    && allBelow top (λ (v : ℕ). ltb (count (W .n) (breaker W)) (count (W .n) (counted W v)))
+
+-- a beat begun is at most the last begun
+begun-upTo : (n own : ℕ) (cs : List Call) (b : ℕ) → Begins n own cs b → b ≤ beatNow (after n own cs)
+unfolding accepted
+begun-upTo n own cs b g =
+    let q = after n own (g .pre ++ (begin b ∷ [])) in
+    let e : cs ≡ (g .pre ++ (begin b ∷ [])) ++ g .place .0 = g .place .1 ∙ sym (append-assoc (g .pre) (begin b ∷ []) (g .place .0)) in
+    let u = upTo-from n own cs q (g .place .0) b (upTo-now q b (ap (λ (p : History). p .last) (after-ok n own (g .pre) (begin b) (g .ok)))) in
+    let w : UpTo (after n own cs) b = subst (λ (p : History). UpTo p b) (sym (ap (after n own) e ∙ after-append n own (g .pre ++ (begin b ∷ [])) (g .place .0))) u in
+    let l = w .le in
+    let k = beat-is (after n own cs) (w .top) (w .last) in
+    omega arith
+
+pub majority : (W : Volume) (top : ℕ) → majorityb W top ≡ true → Majority W
+unfolding majorityb
+majority W top e v i k b g l m =
+    let x = and-eq-true-iff _ _ .0 e in
+    let t = ltb-true (beatNow (after (W .n) i (W .calls i))) (viewBeat top) (implies-use _ _ (below-use (W .n) _ (x .0) i (k .0)) (k .1)) in
+    let u = begun-upTo (W .n) i (W .calls i) b g in
+    ltb-true (count (W .n) (breaker W)) (count (W .n) (counted W v)) (below-use top _ (x .1) v (omega arith))

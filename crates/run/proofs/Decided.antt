@@ -1,0 +1,150 @@
+-- The logs decided in a list of calls; and where no two of them conflict, what stands is the longest and no mark is set. Assumes nothing.
+use Prim.Native.Nat.{ℕ}
+use mathlib.Core.Path.{_≡_, refl, sym, ap, subst, _∙_}
+use mathlib.Core.Logic.{_⊎_, inl, inr}
+use mathlib.Core.List.{List, [], _∷_, _++_, append-nil, append-assoc, List·Memᴰ as Mem, List·Memᴰ·head, List·Memᴰ·tail, List·Memᴰ·cases-cons, List·Memᴰ·not-nil}
+use mathlib.Core.Option.{Option, some, none}
+use mathlib.Core.Bool.{true, false, false≢true}
+use Rattle.message.specs.Logs.{Log, Prefix, empty, Compatible, isPrefix}
+use Rattle.message.proofs.TestLaws.{either}
+use Rattle.message.proofs.LogLaws.{prefix-refl, prefix-trans, prefix-length, isPrefix-iff}
+use Rattle.bench.specs.Calls.{Call, act}
+use Rattle.bench.specs.Acts.{Stand, settle}
+use Rattle.bench.specs.History.{ActRecord, after, keepSome, decidedIn, standIn, stand}
+use Rattle.bench.proofs.CallLaws.{recordOf}
+use Rattle.run.specs.Places.{Decides, LongestDecided}
+use Rattle.run.proofs.Beats.{act-recorded}
+use Rattle.run.proofs.ActPlaces.{act-place}
+
+-- ---- the logs decided, by place and on record
+
+decided-mem : (ds : List ActRecord) (d : ActRecord) (L : Log) → Mem d ds → d .decided ≡ some L → Mem L (decidedIn ds)
+unfolding decidedIn
+decided-mem [] d L i e = absurd (List·Memᴰ·not-nil i)
+decided-mem (x ∷ xs) d L i e = elim (List·Memᴰ·cases-cons i) [
+  | inl q ↦ rw (ap (λ (y : ActRecord). y .decided) (sym q) ∙ e) (List·Memᴰ·head refl)
+  | inr j ↦ more-in (x .decided) (decided-mem xs d L j e)
+]
+  where
+    more-in : (o : Option Log) → Mem L (decidedIn xs) → Mem L (keepSome o (decidedIn xs))
+    more-in none j = j
+    more-in (some M) j = List·Memᴰ·tail j
+
+mem-decided : (ds : List ActRecord) (L : Log) → Mem L (decidedIn ds) → (d : ActRecord) × Mem d ds × (d .decided ≡ some L)
+unfolding decidedIn
+mem-decided [] L i = absurd (List·Memᴰ·not-nil i)
+mem-decided (x ∷ xs) L i = go (x .decided) refl i (mem-decided xs L)
+  where
+    lift : ((d : ActRecord) × Mem d xs × (d .decided ≡ some L)) → (d : ActRecord) × Mem d (x ∷ xs) × (d .decided ≡ some L)
+    lift y = (y .0, List·Memᴰ·tail (y .1), y .2)
+
+    go : (o : Option Log) → x .decided ≡ o → Mem L (keepSome o (decidedIn xs)) → (Mem L (decidedIn xs) → (d : ActRecord) × Mem d xs × (d .decided ≡ some L))
+        → (d : ActRecord) × Mem d (x ∷ xs) × (d .decided ≡ some L)
+    go none e j below = lift (below j)
+    go (some M) e j below = elim (List·Memᴰ·cases-cons j) [
+      | inl q ↦ (x, List·Memᴰ·head refl, e ∙ ap {B = Option Log} some (sym q))
+      | inr k ↦ lift (below k)
+    ]
+
+module _ (n own : ℕ) (cs : List Call) where
+  pub decides-mem : (L : Log) → Decides n own cs L → Mem L (decidedIn (after n own cs .actions))
+  decides-mem L d =
+      let c = act (d .block) (d .priority) (d .out) in
+      let a = recordOf n own (after n own (d .pre)) (d .block) (d .priority) in
+      let e : cs ≡ (d .pre ++ (c ∷ [])) ++ d .place .0 = d .place .1 ∙ sym (append-assoc (d .pre) (c ∷ []) (d .place .0)) in
+      decided-mem (after n own cs .actions) a L
+      (subst (λ (l : List Call). Mem a (after n own l .actions)) (sym e)
+      (act-recorded n own (d .pre) (d .place .0) (d .block) (d .priority) (d .out) (d .ok)))
+      (d .decided)
+
+  pub mem-decides : (L : Log) → Mem L (decidedIn (after n own cs .actions)) → Decides n own cs L
+  mem-decides L i =
+      let x = mem-decided (after n own cs .actions) L i in
+      let y = act-place n own cs cs [] (sym (append-nil cs)) (x .0) (x .1) in
+      record {
+        pre = y .pre;
+        block = y .acts .block;
+        priority = y .acts .priority;
+        out = y .acts .out;
+        place = y .acts .place;
+        ok = y .acts .ok;
+        decided = sym (y .decided) ∙ x .2;
+      }
+
+-- what is decided in a start of a list is decided in the list
+pub decides-start : (n own : ℕ) (pre post : List Call) (L : Log) → Decides n own pre L → Decides n own (pre ++ post) L
+decides-start n own pre post L d = record {
+  pre = d .pre;
+  block = d .block;
+  priority = d .priority;
+  out = d .out;
+  place = (
+    d .place .0 ++ post,
+    ap (λ (l : List Call). l ++ post) (d .place .1) ∙ append-assoc (d .pre) (act (d .block) (d .priority) (d .out) ∷ d .place .0) post,
+  );
+  ok = d .ok;
+  decided = d .decided;
+}
+
+-- ---- what stands where no two decided logs conflict
+
+-- Ls being decided, what stands has no mark, extends all of them, and is one of them
+pub record Good (Ls : List Log) (st : Stand) : Type 0 where
+  pub unmarked : st .parted ≡ false
+  pub above : (L : Log) → Mem L Ls → Prefix L (st .log)
+  pub among : Mem (st .log) Ls ⊎ ((st .log ≡ []) × (Ls ≡ []))
+
+abbrev Agreeing : List Log → Type 0
+Agreeing Ls = (L M : Log) → Mem L Ls → Mem M Ls → Compatible L M
+
+-- one more decision
+settle-good : (Ls : List Log) (st : Stand) (L : Log) → Agreeing (L ∷ Ls) → Good Ls st → Good (L ∷ Ls) (settle st (some L))
+unfolding settle
+settle-good Ls st L agree g = either (isPrefix (st .log) L) extends stays
+  where
+    extends : isPrefix (st .log) L ≡ true → Good (L ∷ Ls) (settle st (some L))
+    extends e =
+        let h = isPrefix-iff (st .log) L .0 e in
+        rw e (record {
+          unmarked = g .unmarked;
+          above = λ M i. elim (List·Memᴰ·cases-cons i) [ inl q ↦ rw q (prefix-refl L) | inr j ↦ prefix-trans (g .above M j) h ];
+          among = inl (List·Memᴰ·head refl);
+        })
+
+    stays : isPrefix (st .log) L ≡ false → Good (L ∷ Ls) (settle st (some L))
+    stays e =
+        let no : Prefix (st .log) L → ⊥ = λ k. false≢true (sym e ∙ isPrefix-iff (st .log) L .1 k) in
+        let m : Mem (st .log) Ls = elim (g .among) [ inl m ↦ m | inr q ↦ absurd (no (rw (q .0) empty)) ] in
+        let h : Prefix L (st .log) = elim (agree (st .log) L (List·Memᴰ·tail m) (List·Memᴰ·head refl)) [ inl k ↦ absurd (no k) | inr k ↦ k ] in
+        rw (e, isPrefix-iff L (st .log) .1 h) (record {
+          unmarked = g .unmarked;
+          above = λ M i. elim (List·Memᴰ·cases-cons i) [ inl q ↦ rw q h | inr j ↦ g .above M j ];
+          among = inl (List·Memᴰ·tail m);
+        })
+
+decision-good : (Ls : List Log) (st : Stand) (o : Option Log) → Agreeing (keepSome o Ls) → (Agreeing Ls → Good Ls st) → Good (keepSome o Ls) (settle st o)
+unfolding settle
+decision-good Ls st none agree below = below agree
+decision-good Ls st (some L) agree below = settle-good Ls st L agree (below (λ M K i j. agree M K (List·Memᴰ·tail i) (List·Memᴰ·tail j)))
+
+stand-good : (ds : List ActRecord) → Agreeing (decidedIn ds) → Good (decidedIn ds) (standIn ds)
+unfolding standIn decidedIn
+stand-good [] agree = record { unmarked = refl; above = λ L i. absurd (List·Memᴰ·not-nil i); among = inr (refl, refl) }
+stand-good (d ∷ ds) agree = decision-good (decidedIn ds) (standIn ds) (d .decided) agree (stand-good ds)
+
+-- Where no two logs decided in the list conflict, what stands is the longest of them, and there is no mark.
+pub stands-longest : (n own : ℕ) (cs : List Call) → ((L M : Log) → Decides n own cs L → Decides n own cs M → Compatible L M)
+    → LongestDecided n own cs (stand n own cs .log) × (stand n own cs .parted ≡ false)
+unfolding stand
+stands-longest n own cs agree =
+    let ds = after n own cs .actions in
+    let g = stand-good ds (λ L M i j. agree L M (mem-decides n own cs L i) (mem-decides n own cs M j)) in (
+      record {
+        among = elim (g .among) [
+          | inl m ↦ inl (mem-decides n own cs (standIn ds .log) m)
+          | inr e ↦ inr (e .0, λ M d. List·Memᴰ·not-nil (rw (e .1) at (decides-mem n own cs M d)))
+        ];
+        above = λ M d. prefix-length (g .above M (decides-mem n own cs M d));
+      },
+      g .unmarked,
+    )

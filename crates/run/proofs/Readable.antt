@@ -1,0 +1,53 @@
+-- What a rule-keeper makes or passes on can be handed to every bench of its volume, so the premise on delivery asks nothing that cannot be done.
+-- Assumes nothing.
+use Prim.Native.Nat.{ℕ, _≤_, _<_}
+use native.Mathlib.Omega.{arith}
+use mathlib.Core.Path.{_≡_, subst}
+use mathlib.Core.List.{List, [], _∷_, _++_}
+use mathlib.Core.Option.{none}
+use mathlib.Core.Bool.{true}
+use Rattle.message.specs.Message.{Content, logMessage, bytesOf, means, readOf, Writable}
+use Rattle.message.proofs.WrittenFields.{length-message}
+use Rattle.message.proofs.Codec.{read-written, read-writable, message-below}
+use Rattle.agreement.specs.Limits.{mostSenders}
+use Rattle.bench.specs.Calendar.{logWindow}
+use Rattle.bench.specs.Calls.{Call, receive, act, Typed, AllTyped}
+use Rattle.bench.specs.History.{History, beatNow, refusal, after}
+use Rattle.bench.proofs.CallLaws.{receive-refusal}
+use Rattle.bench.proofs.GoodHistory.{after-good, made-good}
+use Rattle.run.specs.Places.{At, MakesAfter, Sends, makes, passesOn}
+
+typed-parts : (pre : List Call) (c : Call) (post : List Call) → AllTyped (pre ++ (c ∷ post)) → AllTyped pre × Typed c
+typed-parts [] c post t = (tt, t .0)
+typed-parts (x ∷ xs) c post t = let y = typed-parts xs c post (t .1) in ((t .0, y .0), y .1)
+
+module _ (n own : ℕ) (cs : List Call) (lo : own < n) (t : AllTyped cs) where
+  typed-at : (pre : List Call) (c : Call) → At cs pre c → AllTyped pre × Typed c
+  typed-at pre c at = typed-parts pre c (at .0) (subst AllTyped (at .1) t)
+
+  sent-writable : (b : ℕ) (m : Content) → Sends n own cs b m → Writable n m
+  sent-writable b m (makes pre x) =
+      let y = typed-at pre (act (x .block) (x .priority) (x .out)) (x .place) in
+      let c = y .1 in
+      made-good n own (x .block) (x .priority) lo (c .0) (c .1) (c .2) (after n own pre) (after-good n own pre lo (y .0)) (logMessage m) (x .made)
+  sent-writable b m (passesOn pre x f) =
+      read-writable n (x .bytes) (logMessage m) (typed-at pre (receive (x .bytes)) (x .place) .1 .0) (x .read)
+
+  -- Every LOG that a bench makes or passes on is read back from its bytes by every bench of the volume.
+  pub sent-readable : (b : ℕ) (m : Content) → Sends n own cs b m → readOf n (bytesOf (logMessage m)) ≡ means (logMessage m)
+  sent-readable b m s = read-written n (logMessage m) (sent-writable b m s)
+
+  pub made-readable : (pre : List Call) (b : ℕ) (m : Content) → MakesAfter n own cs pre b m → readOf n (bytesOf (logMessage m)) ≡ means (logMessage m)
+  made-readable pre b m x = sent-readable b m (makes pre x)
+
+  -- Its bytes may be handed to Receive, and in a gathering with its view open they are taken, whatever went before.
+  pub sent-typed : (b : ℕ) (m : Content) → n ≤ mostSenders → Sends n own cs b m → Typed (receive (bytesOf (logMessage m)))
+  sent-typed b m l s =
+      let w = sent-writable b m s in
+      let k = length-message (logMessage m) in
+      let h = w .short in
+      (message-below n (logMessage m) (omega arith) w, omega arith)
+
+  pub sent-taken : (b : ℕ) (m : Content) → Sends n own cs b m → (p : History) → p .gathering ≡ true → logWindow (m .view) (beatNow p) ≡ true
+      → refusal n p (receive (bytesOf (logMessage m))) ≡ none
+  sent-taken b m s p g w = receive-refusal n p (bytesOf (logMessage m)) (logMessage m) (sent-readable b m s) g w

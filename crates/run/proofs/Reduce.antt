@@ -1,0 +1,140 @@
+-- Demand 3 of a machine, from what each bench does alone; and that from one call at a time. Assumes nothing.
+use Prim.Native.Nat.{ℕ}
+use mathlib.Core.Path.{_≡_, refl, sym, ap, subst, _∙_}
+use mathlib.Core.List.{List, [], _∷_, _++_}
+use mathlib.Core.Option.{Option, some, none}
+use mathlib.Core.Bool.{false}
+use native.Mathlib.Omega.{arith}
+use Rattle.message.specs.Logs.{Log}
+use Rattle.message.proofs.LogLaws.{no-conflict-iff}
+use Rattle.bench.specs.Layout.{Held}
+use Rattle.bench.specs.Calls.{Call, begin, Reply, refused, done, took, acted, Opening, Typed, AllTyped}
+use Rattle.bench.specs.Acts.{Stand}
+use Rattle.bench.specs.History.{History, fresh, openRefusal, refusal, step, answer, answersFrom, answersTo, afterFrom, after, standIn, stand}
+use Rattle.run.specs.Places.{Decides, LongestDecided}
+use Rattle.run.specs.Premises.{Volume, Keeps, Delivery, Numbers, Majority}
+use Rattle.run.specs.Demand.{Way, Machine, call, standing, Event, callsIn, runs, answers, OpenedAs, OpensRightly, Claim, Demand3}
+use Rattle.run.proofs.Votes.{no-conflict}
+use Rattle.run.proofs.Decided.{decides-start, stands-longest}
+
+-- ---- agreement follows from what each bench does alone
+
+-- Demand 3 but for agreement.
+pub record Faithful (M : Machine) : Type 0 where
+  pub opens : OpensRightly M
+  pub answered : (n own : ℕ) (x : Held (M .Bench)) (es : List Event) → OpenedAs M n own x → AllTyped (callsIn es)
+      → answers M x es ≡ answersTo n own (callsIn es)
+  pub stood : (n own : ℕ) (x : Held (M .Bench)) (es : List Event) → OpenedAs M n own x → AllTyped (callsIn es)
+      → standing M (runs M x es) ≡ stand n own (callsIn es)
+  pub refusals : (n own : ℕ) (x : Held (M .Bench)) (es : List Event) (w : Way) (c : Call) (k : ℕ) → OpenedAs M n own x → AllTyped (callsIn es) → Typed c
+      → refusal n (after n own (callsIn es)) c ≡ some k → call M w (runs M x es) c .held ≡ runs M x es
+  pub begins : (n own : ℕ) (x : Held (M .Bench)) (es : List Event) (w : Way) (b : ℕ) → OpenedAs M n own x → AllTyped (callsIn es) → Typed (begin b)
+      → call M w (runs M x es) (begin b) .held .lent ≡ runs M x es .lent
+
+typed-start : (pre post : List Call) → AllTyped (pre ++ post) → AllTyped pre
+typed-start [] post t = tt
+typed-start (c ∷ cs) post t = (t .0, typed-start cs post (t .1))
+
+callsIn-append : (pre post : List Event) → callsIn (pre ++ post) ≡ callsIn pre ++ callsIn post
+unfolding callsIn
+callsIn-append [] post = refl
+callsIn-append (e ∷ es) post = ap (λ (l : List Call). e .what ∷ l) (callsIn-append es post)
+
+agreement : (M : Machine) → Faithful M → (W : Volume) (from : ℕ → Held (M .Bench)) (events : ℕ → List Event)
+    → ((i : ℕ) → Keeps W i → OpenedAs M (W .n) i (from i))
+    → ((i : ℕ) → Keeps W i → callsIn (events i) ≡ W .calls i)
+    → ((i : ℕ) → Keeps W i → AllTyped (W .calls i))
+    → Delivery W → Numbers W → Majority W → Claim M W from events
+agreement M F W from events given made typed D N J = record {
+  no-conflict = λ i j ki kj L K d e. no-conflict-iff L K .1 (no-conflict W D N J i j ki kj L K d e);
+  stands = λ i k pre post e.
+      let s = F .stood (W .n) i (from i) pre (given i k) (typed-start (callsIn pre) (callsIn post) (subst AllTyped (split i k pre post e) (typed i k))) in
+      let x = inside i k pre post e in
+      (subst (λ (st : Stand). LongestDecided (W .n) i (callsIn pre) (st .log)) (sym s) (x .0), ap (λ (st : Stand). st .parted) s ∙ x .1);
+}
+  where
+    split : (i : ℕ) → Keeps W i → (pre post : List Event) → events i ≡ pre ++ post → W .calls i ≡ callsIn pre ++ callsIn post
+    split i k pre post e = sym (made i k) ∙ ap callsIn e ∙ callsIn-append pre post
+
+    -- decided in a start of the list, so in the list
+    whole : (i : ℕ) (k : Keeps W i) (pre post : List Event) (e : events i ≡ pre ++ post) (L : Log) → Decides (W .n) i (callsIn pre) L → Decides (W .n) i (W .calls i) L
+    whole i k pre post e L d =
+        subst (λ (l : List Call). Decides (W .n) i l L) (sym (split i k pre post e)) (decides-start (W .n) i (callsIn pre) (callsIn post) L d)
+
+    inside : (i : ℕ) → Keeps W i → (pre post : List Event) → events i ≡ pre ++ post
+        → LongestDecided (W .n) i (callsIn pre) (stand (W .n) i (callsIn pre) .log) × (stand (W .n) i (callsIn pre) .parted ≡ false)
+    inside i k pre post e =
+        stands-longest (W .n) i (callsIn pre) (λ L K d f. no-conflict W D N J i i k k L K (whole i k pre post e L d) (whole i k pre post e K f))
+
+pub demand3 : (M : Machine) → Faithful M → Demand3 M
+demand3 M F = record {
+  opens = F .opens;
+  answered = F .answered;
+  stood = F .stood;
+  refusals = F .refusals;
+  begins = F .begins;
+  agrees = agreement M F;
+}
+
+-- ---- from one call at a time
+
+reply-kind : Reply → ℕ
+reply-kind (refused k) = 0
+reply-kind done = 1
+reply-kind (took w) = 2
+reply-kind (acted m) = 3
+
+-- a bench that its Open gave was not refused
+pub opened-ok : (M : Machine) → OpensRightly M → (n own : ℕ) (x : Held (M .Bench)) → OpenedAs M n own x
+    → openRefusal n own (x .lent) ≡ none
+unfolding reply-kind
+opened-ok M O n own x o = go (openRefusal n own (x .lent)) refl
+  where
+    go : (r : Option ℕ) → openRefusal n own (x .lent) ≡ r
+        → openRefusal n own (x .lent) ≡ none
+    go none e = e
+    go (some k) e =
+        let g : done ≡ refused k = sym (ap (λ (y : Opening (M .Bench)). y .reply) (o .given)) ∙ O .refuses n own (x .lent) k (o .typed) e in
+        let z : _≡_ {A = ℕ} 1 0 = ap reply-kind g in
+        absurd (omega arith)
+
+-- A relation between what is held and the history, which Open brings about and every call keeps, answers included.
+pub record Simulation (M : Machine) : Type 1 where
+  pub rightly : OpensRightly M
+  pub Rel : ℕ → ℕ → Held (M .Bench) → History → Type 0
+  pub opens : (n own : ℕ) (x : Held (M .Bench)) → OpenedAs M n own x → Rel n own x fresh
+  pub same-answer : (n own : ℕ) (w : Way) (x : Held (M .Bench)) (p : History) (c : Call) → Rel n own x p → Typed c → call M w x c .answer ≡ answer n own p c
+  pub keeps : (n own : ℕ) (w : Way) (x : Held (M .Bench)) (p : History) (c : Call) → Rel n own x p → Typed c → Rel n own (call M w x c .held) (step n own p c)
+  pub same-standing : (n own : ℕ) (x : Held (M .Bench)) (p : History) → Rel n own x p → standing M x ≡ standIn (p .actions)
+  pub refusals : (n own : ℕ) (w : Way) (x : Held (M .Bench)) (p : History) (c : Call) (k : ℕ) → Rel n own x p → Typed c → refusal n p c ≡ some k → call M w x c .held ≡ x
+  pub begins : (n own : ℕ) (w : Way) (x : Held (M .Bench)) (p : History) (b : ℕ) → Rel n own x p → Typed (begin b) → call M w x (begin b) .held .lent ≡ x .lent
+
+module _ (M : Machine) (S : Simulation M) (n own : ℕ) where
+  sim-answers : (es : List Event) (x : Held (M .Bench)) (p : History) → S .Rel n own x p → AllTyped (callsIn es) → answers M x es ≡ answersFrom n own p (callsIn es)
+  unfolding answers answersFrom callsIn
+  sim-answers [] x p r t = refl
+  sim-answers (e ∷ es) x p r t =
+      let a = S .same-answer n own (e .way) x p (e .what) r (t .0) in
+      let b = sim-answers es (call M (e .way) x (e .what) .held) (step n own p (e .what)) (S .keeps n own (e .way) x p (e .what) r (t .0)) (t .1) in
+      λ i. a i ∷ b i
+
+  sim-runs : (es : List Event) (x : Held (M .Bench)) (p : History) → S .Rel n own x p → AllTyped (callsIn es) → S .Rel n own (runs M x es) (afterFrom n own p (callsIn es))
+  unfolding runs afterFrom callsIn
+  sim-runs [] x p r t = r
+  sim-runs (e ∷ es) x p r t =
+      sim-runs es (call M (e .way) x (e .what) .held) (step n own p (e .what)) (S .keeps n own (e .way) x p (e .what) r (t .0)) (t .1)
+
+  -- the relation holds all along
+  sim-all : (es : List Event) (x : Held (M .Bench)) → OpenedAs M n own x → AllTyped (callsIn es) → S .Rel n own (runs M x es) (after n own (callsIn es))
+  unfolding after
+  sim-all es x o t = sim-runs es x fresh (S .opens n own x o) t
+
+pub faithful : (M : Machine) → Simulation M → Faithful M
+unfolding answersTo stand
+faithful M S = record {
+  opens = S .rightly;
+  answered = λ n own x es o t. sim-answers M S n own es x fresh (S .opens n own x o) t;
+  stood = λ n own x es o t. S .same-standing n own (runs M x es) (after n own (callsIn es)) (sim-all M S n own es x o t);
+  refusals = λ n own x es w c k o t y e. S .refusals n own w (runs M x es) (after n own (callsIn es)) c k (sim-all M S n own es x o t) y e;
+  begins = λ n own x es w b o t y. S .begins n own w (runs M x es) (after n own (callsIn es)) b (sim-all M S n own es x o t) y;
+}
