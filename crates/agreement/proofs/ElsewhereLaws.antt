@@ -3,7 +3,7 @@
 use Prim.Native.Nat.{ℕ, _+_, _^_, _≤_, _<_}
 use native.Mathlib.Decide.{decLt}
 use native.Mathlib.Omega.{arith}
-use mathlib.Core.Bool.{Bool, true, false, _&&_, _||_}
+use mathlib.Core.Bool.{false, _&&_, _||_}
 use mathlib.Core.List.{List}
 use mathlib.Core.Logic.{_⊎_, inl, inr}
 use mathlib.Core.Path.{_≡_, refl, ap}
@@ -15,7 +15,6 @@ use Rattle.message.specs.Numbers.{AllBelow, put}
 use Rattle.message.specs.Logs.{Log, sameLog, namesOf, countsOf}
 use Rattle.message.specs.Message.{countIn, logIn}
 use Rattle.message.specs.Store.{logAt}
-use Rattle.message.proofs.TestLaws.{either}
 use Rattle.message.proofs.Acceptance.{length-blocks}
 use Rattle.message.proofs.ListedLaws.{log-before, log-past}
 use Rattle.message.proofs.PartLaws.{length-put, put-all-below}
@@ -28,6 +27,7 @@ use Rattle.agreement.specs.Kept.{nothing, only, differing, keptLog, kept
 use Rattle.agreement.specs.declared.Agreement.{Agreement}
 use Rattle.agreement.specs.declared.Proposals.{Proposals}
 use Rattle.agreement.proofs.FilingLaws.{few-blocks}
+use Rattle.agreement.proofs.KeptLaws.{cases}
 
 -- k places from a on lie outside the w places from b on
 abbrev pub Apart : ℕ → ℕ → ℕ → ℕ → Type 0
@@ -60,10 +60,6 @@ put-elsewhere b w names counts place L h l n c = record {
   name-bound = put-all-below (2 ^ 64) names place (namesOf L) n;
   count-bound = put-all-below (2 ^ 16) counts place (countsOf L) c;
 }
-
--- by what was found: two differed before, or the log is known, or there is one other, or none
-cases : (A : Type 0) (q v e : Bool) → (q ≡ true → A) → (q ≡ false → v ≡ true → e ≡ true → A) → (q ≡ false → v ≡ true → e ≡ false → A) → (q ≡ false → v ≡ false → A) → A
-cases A q v e f g h k = either q f (λ a. either v (λ b. either e (g a b) (h a b)) (k a))
 
 module _ (names counts : List ℕ) (base : ℕ) (s : List ℕ) (i : ℕ) (f : Fit names counts base s i)
     (n : AllBelow (2 ^ 64) (namesOf (logIn s))) (c : AllBelow (2 ^ 16) (countsOf (logIn s))) where

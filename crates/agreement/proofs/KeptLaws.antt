@@ -30,7 +30,7 @@ use Rattle.agreement.specs.declared.Proposals.{Proposals}
 use Rattle.agreement.proofs.FilingLaws.{fit-not-unfit, few-blocks}
 
 -- by what was found: two differed before; there is one, and this is the same, or another; there is none
-cases : (A : Type 0) (q v e : Bool) → (q ≡ true → A) → (q ≡ false → v ≡ true → e ≡ true → A) → (q ≡ false → v ≡ true → e ≡ false → A) → (q ≡ false → v ≡ false → A) → A
+pub cases : (A : Type 0) (q v e : Bool) → (q ≡ true → A) → (q ≡ false → v ≡ true → e ≡ true → A) → (q ≡ false → v ≡ true → e ≡ false → A) → (q ≡ false → v ≡ false → A) → A
 cases A q v e f g h k = either q f (λ a. either v (λ b. either e (g a b) (h a b)) (k a))
 
 -- ---- the list places

@@ -3,8 +3,8 @@
 use Prim.Native.Nat.{ℕ}
 use mathlib.Core.Bool.{Bool, true, false, not, _&&_, _||_, and-false, and-eq-true-iff}
 use mathlib.Core.List.{List, [], _∷_, List·Memᴰ, List·Memᴰ·head, List·Memᴰ·tail}
-use mathlib.Core.Logic.{_⊎_, inl, inr, _≢_, Ne·symm, _↔_}
-use mathlib.Core.Path.{_≡_, refl, ap, subst, _∙_}
+use mathlib.Core.Logic.{_⊎_, inl, inr, _≢_, Ne·symm}
+use mathlib.Core.Path.{_≡_, refl, ap, _∙_}
 use borrow.Author.Tests.{eqb-true, eq-eqb, ne-eqb}
 use lib.Dec.{eqb}
 use Rattle.message.specs.Choice.{pick}
@@ -45,12 +45,6 @@ sameProposal-sound a b e =
     let p = eqb-true (a .priority) (b .priority) (t .1) in
     λ i. record { log = l i; priority = p i }
 
-pub sameProposal-refl : (a : Proposed) → sameProposal a a ≡ true
-sameProposal-refl a = rw (sameLog-iff (a .log) (a .log) .1 refl, eq-eqb (a .priority) (a .priority) refl) refl
-
-pub sameProposal-iff : (a b : Proposed) → (sameProposal a b ≡ true) ↔ (a ≡ b)
-sameProposal-iff a b = (sameProposal-sound a b, λ e. subst (λ (c : Proposed). sameProposal a c ≡ true) e (sameProposal-refl a))
-
 -- ---- whether a message of view u from sender t is one of view v from sender s
 
 mine : (v s : ℕ) → (eqb v v && eqb s s) ≡ true
@@ -87,9 +81,6 @@ heard-none (m ∷ ms) v s h =
 pub heard-no-view : (heard : List Content) (v s : ℕ) → ((m : Content) → List·Memᴰ m heard → v ≢ m .view) → heardLogs heard v s ≡ nothing
 heard-no-view heard v s h = heard-none heard v s (λ m i. inl (h m i))
 
-pub heard-no-sender : (heard : List Content) (v s : ℕ) → ((m : Content) → List·Memᴰ m heard → s ≢ m .sender) → heardLogs heard v s ≡ nothing
-heard-no-sender heard v s h = heard-none heard v s (λ m i. inr (h m i))
-
 -- ---- the same of PROPOSALs
 
 module _ (heard : List ProposalHeard) (m : ProposalHeard) where
@@ -119,7 +110,3 @@ proposals-none (m ∷ ms) v s h =
 pub proposals-no-view : (heard : List ProposalHeard) (v s : ℕ) → ((m : ProposalHeard) → List·Memᴰ m heard → v ≢ m .content .view)
     → heardProposals heard v s ≡ nothing
 proposals-no-view heard v s h = proposals-none heard v s (λ m i. inl (h m i))
-
-pub proposals-no-sender : (heard : List ProposalHeard) (v s : ℕ) → ((m : ProposalHeard) → List·Memᴰ m heard → s ≢ m .content .sender)
-    → heardProposals heard v s ≡ nothing
-proposals-no-sender heard v s h = proposals-none heard v s (λ m i. inr (h m i))

@@ -21,7 +21,7 @@ use Rattle.agreement.specs.Reading.{longest}
 use Rattle.agreement.specs.Record.{isVoter, isEquivocator, filedLog, lacksRoom, overlong, readingOf}
 use Rattle.agreement.specs.Grades.{gradeAmong, gradeZero, gradeOne, gradeTwo}
 use Rattle.agreement.specs.Kept.{Kept, nothing, only, differing, singleOf, heardOf, keptLog, Proposed, keptProposal}
-use Rattle.agreement.specs.Heard.{onlyLog, readingFrom, gradeNow, gradeWith, mayChoose, priorityOf, proposedLog, orLock, voteAmong}
+use Rattle.agreement.specs.Heard.{onlyLog, readingFrom, gradeNow, gradeWith, mayChoose, priorityOf, orLock, voteAmong}
 use Rattle.agreement.specs.Proposals.{fits, ifFits, bestOf, choiceOf}
 use Rattle.agreement.specs.declared.Agreement.{Agreement}
 use Rattle.agreement.specs.declared.Proposals.{Proposals}
@@ -135,11 +135,6 @@ module _ (n : ℕ) (logs logs′ : ℕ → Kept Log) (h : (i : ℕ) → i < n �
   gradeWith-cong none = refl
   gradeWith-cong (some snap) = longest-cong n ones (reading-alike snap snap (λ i l. refl))
 
-  pub gradeWith-snap : (snap snap′ : ℕ → Bool) → ((i : ℕ) → i < n → snap i ≡ snap′ i)
-      → gradeWith n logs (some snap) ≡ gradeWith n logs′ (some snap′)
-  unfolding gradeWith
-  gradeWith-snap snap snap′ s = longest-cong n ones (reading-alike snap snap′ s)
-
 -- ---- the best sender, by who passes below n and by the priorities of those that pass
 
 -- senders from n on change nothing where none of them passes
@@ -184,19 +179,6 @@ pub vote-cut : (n d : ℕ) (kept : ℕ → Kept Proposed) (L : Log) → ((i : �
     → voteAmong (n + d) kept L ≡ voteAmong n kept L
 unfolding voteAmong
 vote-cut n d kept L h = ap (orLock kept L) (best-cut n d (may L kept) (priority kept) (λ i a b. ap (mayChoose L) (h i a b)))
-
--- the vote depends on what is kept of the senders below n
-pub vote-cong : (n : ℕ) (kept kept′ : ℕ → Kept Proposed) (L : Log) → ((i : ℕ) → i < n → kept i ≡ kept′ i)
-    → voteAmong n kept L ≡ voteAmong n kept′ L
-unfolding voteAmong
-vote-cong n kept kept′ L h =
-    go (bestOf n (may L kept) (priority kept)) refl
-    ∙ ap (orLock kept′ L)
-    (best-cong (may L kept) (may L kept′) (priority kept) (priority kept′) n (λ i l. ap (mayChoose L) (h i l)) (λ i l e. ap priorityOf (h i l)))
-  where
-    go : (o : Option ℕ) → bestOf n (may L kept) (priority kept) ≡ o → orLock kept L o ≡ orLock kept′ L o
-    go none e = refl
-    go (some i) e = ap proposedLog (h i (best-is (may L kept) (priority kept) n i e .below))
 
 -- of a record that has nothing of senders at n or above, the vote among 32 is that among n
 pub vote-kept : (n : ℕ) (names counts : List ℕ) (base : ℕ) (g : Proposals) (L : Log) → n ≤ mostSenders

@@ -32,7 +32,8 @@ use Rattle.bench.proofs.Slots.{empty-of-view, begun-open, begun-proposa
 use Rattle.bench.proofs.GoodHistory.{fresh-good}
 use Rattle.bench.proofs.Ties.{Holds, HoldsProposals, Since, lastOf, Tie}
 use Rattle.bench.proofs.Filling.{holds-same, empty-holds, empty-proposals-holds}
-use Rattle.bench.proofs.FilingTies.{Carries, file-tie}
+use Rattle.bench.proofs.LogTies.{Carries}
+use Rattle.bench.proofs.FilingTies.{file-tie}
 
 -- What a call of the record has to do with the history's: the same answer; tied afterwards; and a refusal leaves record and lists.
 pub record Agrees (n own : ℕ) (s : State) (p : History) (c : Call) (r : Step Bench) : Type 0 where

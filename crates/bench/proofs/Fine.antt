@@ -74,9 +74,6 @@ pub record Fine (b : Bench) : Type 0 where
   pub odd : FineAgreement (b .n) (b .odd)
   pub proposals : FineProposals (b .n) (b .proposals)
 
-pub sizes : {b : Bench} → Fine b → SizedBench b
-sizes f = record { even = f .even .sized; odd = f .odd .sized; proposals = f .proposals .sized }
-
 -- ---- tests of two parts
 
 and-off : (a b : Bool) → (a && b) ≡ false → a ≡ true → b ≡ false

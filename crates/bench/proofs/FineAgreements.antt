@@ -1,7 +1,6 @@
 -- An agreement stays within its limits: with nothing filed, after each change of it, and so after filing. Its arrays keep their 32 places
 -- (`sized`). Assumes nothing.
 use Prim.Native.Nat.{ℕ, zero, suc, _≤_, _<_}
-use native.Mathlib.Decide.{decLe}
 use native.Mathlib.Omega.{arith}
 use mathlib.Core.Bool.{Bool, true, false, _&&_, _||_, false≢true}
 use mathlib.Core.List.{List}
@@ -16,10 +15,11 @@ use Rattle.message.specs.Message.{countIn, logIn}
 use Rattle.message.proofs.TestLaws.{either, or-false}
 use Rattle.agreement.specs.Limits.{mostSenders}
 use Rattle.agreement.specs.Sets.{member}
-use Rattle.agreement.specs.Record.{emptyAgreement, isVoter, isEquivocator, isSender, filedLog, withFirst, withSecond, withOne, withTwo}
+use Rattle.agreement.specs.Record.{emptyAgreement, isVoter, isEquivocator, filedLog, withFirst, withSecond, withOne, withTwo}
 use Rattle.agreement.specs.Filing.{Fit, unfit, fileOf}
 use Rattle.agreement.specs.declared.Agreement.{Agreement}
 use Rattle.agreement.proofs.FilingLaws.{fit, few-blocks}
+use Rattle.agreement.proofs.KeptLaws.{cases}
 use Rattle.bench.proofs.Fine.{FineSender, FineAgreement, nothing-fine}
 
 -- ---- nothing filed
@@ -45,17 +45,6 @@ empty-fine n v h = record {
 -- place i, and every other
 pub at-place : (P : ℕ → Type 0) (i j : ℕ) → P i → ((j ≡ i → ⊥) → P j) → P j
 at-place P i j here else = either (eqb j i) (λ t. subst P (sym (eqb-true j i t)) here) (λ t. else (eqb-false j i t))
-
--- by what filing finds: nothing to do; one filed before, and this is the same, or another; none
-pub cases : (A : Type 0) (q v e : Bool) → (q ≡ true → A) → (q ≡ false → v ≡ true → e ≡ true → A) → (q ≡ false → v ≡ true → e ≡ false → A)
-    → (q ≡ false → v ≡ false → A) → A
-cases A q v e f g h k = either q f (λ a. either v (λ b. either e (g a b) (h a b)) (k a))
-
-below : (n i : ℕ) (b : Bool) → (n ≤ i → b ≡ false) → b ≡ true → i < n
-below n i b f t = elim (decLe n i) [
-  | yes h ↦ absurd (false≢true (sym (f h) ∙ t))
-  | no h ↦ omega arith
-]
 
 or-left : (a b : Bool) → a ≡ true → (a || b) ≡ true
 or-left true b e = refl
@@ -90,17 +79,6 @@ equivocator-fine n i k one two h l = record {
 }
 
 module _ (n : ℕ) (g : Agreement) (f : FineAgreement n g) where
-  -- in V or in E, and so below n
-  pub voter-below : (i : ℕ) → isVoter g i ≡ true → i < n
-  voter-below i t = below n i (isVoter g i) (f .sender i .no-voter) t
-
-  pub equivocator-below : (i : ℕ) → isEquivocator g i ≡ true → i < n
-  equivocator-below i t = below n i (isEquivocator g i) (f .sender i .no-equivocator) t
-
-  -- from n on there is no sender, and no sender is in both V and E
-  pub no-sender : (i : ℕ) → n ≤ i → isSender g i ≡ false
-  no-sender i h = rw (f .sender i .no-voter h, f .sender i .no-equivocator h)
-
   pub not-both : (i : ℕ) → (isVoter g i && isEquivocator g i) ≡ false
   not-both i = either (isVoter g i) (λ t. rw (t, f .sender i .apart t)) (λ t. rw t)
 

@@ -19,8 +19,9 @@ use Rattle.agreement.specs.Filing.{Fit, unfit}
 use Rattle.agreement.specs.Proposals.{emptyProposals, withProposal, withAside, fileProposalOf}
 use Rattle.agreement.specs.declared.Proposals.{Proposals}
 use Rattle.agreement.proofs.FilingLaws.{fit, few-blocks}
+use Rattle.agreement.proofs.KeptLaws.{cases}
 use Rattle.bench.proofs.Fine.{FineProposer, FineProposals, unfiled-fine}
-use Rattle.bench.proofs.FineAgreements.{getD-all, at-place, cases}
+use Rattle.bench.proofs.FineAgreements.{getD-all, at-place}
 
 pub empty-proposals-fine : (n v : ℕ) → v ≤ lastView → FineProposals n (emptyProposals v)
 empty-proposals-fine n v h = record {

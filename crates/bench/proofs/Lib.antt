@@ -14,6 +14,8 @@ pub mod Refusals
 -- The tie between record and history, kept by every call:
 pub mod Ties
 pub mod Filling
+pub mod LogTies
+pub mod ProposalTies
 pub mod FilingTies
 pub mod CallTies
 pub mod SeenTies

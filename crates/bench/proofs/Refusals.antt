@@ -154,6 +154,15 @@ module _ (s : State) (beat : ℕ) where
   pub begin-leaves : (k : ℕ) → beginOf s beat .answer .reply ≡ refused k → (beginOf s beat .held ≡ s) × (beginOf s beat .answer .out ≡ [])
   begin-leaves k r = leaves (begin-refused k r)
 
+-- Begin does not write the lists, whatever the record.
+pub begin-lent : (s : State) (beat : ℕ) → beginOf s beat .held .lent ≡ s .lent
+unfolding beginOf
+begin-lent s beat =
+    either (beyond (s .bench)) (λ e. rw e)
+    (λ e. either (tooShort (s .lent)) (λ f. rw (e, f))
+    (λ f. either (ltb lastBeat beat) (λ g. rw (e, f, g))
+    (λ g. either (ltb beat (s .bench .next)) (λ h. rw (e, f, g, h)) (λ h. rw (e, f, g, h)))))
+
 -- ---- Receive
 
 module _ (s : State) (bytes : List ℕ) where

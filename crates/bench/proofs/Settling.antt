@@ -24,7 +24,7 @@ use Rattle.bench.proofs.FineBench.{over-fine, decided-fine, parted-fine
 use Rattle.bench.proofs.GoodHistory.{GoodLog}
 use Rattle.bench.proofs.Ties.{Filled, Roomy, standOf, Tie}
 use Rattle.bench.proofs.Filling.{filled-decided}
-use Rattle.bench.proofs.FilingTies.{roomy-elsewhere}
+use Rattle.bench.proofs.LogTies.{roomy-elsewhere}
 
 -- The state x after a decision d, of a bench that was tied to p and whose gathering is over.
 pub record Settled (n own : ℕ) (s : State) (p : History) (d : Option Log) (x : State) : Type 0 where

@@ -17,19 +17,19 @@ use Rattle.message.proofs.TestLaws.{either}
 use Rattle.agreement.specs.Limits.{mostSenders}
 use Rattle.agreement.specs.Sets.{member}
 use Rattle.agreement.specs.Record.{emptyAgreement, filedLog}
-use Rattle.agreement.specs.Filing.{unfit, fileOf}
+use Rattle.agreement.specs.Filing.{unfit}
 use Rattle.agreement.specs.Proposals.{emptyProposals, fileProposalOf}
 use Rattle.agreement.specs.Kept.{nothing, keptLog, keptProposal}
 use Rattle.agreement.specs.declared.Agreement.{Agreement}
 use Rattle.agreement.specs.declared.Proposals.{Proposals}
-use Rattle.agreement.proofs.KeptLaws.{file-rest}
 use Rattle.bench.specs.Layout.{isEven}
 use Rattle.bench.specs.Calendar.{inputBeat, closeBeat, logsShut, proposalsShut}
 use Rattle.bench.specs.Record.{ofView, slotOf, agreementOf, proposalsOf, withAgreement, withProposals}
 use Rattle.bench.specs.ByRecord.{keptAgreement, keptProposals, begunBench}
 use Rattle.bench.specs.declared.Bench.{Bench}
+use Rattle.agreement.proofs.KeptLaws.{cases}
 use Rattle.bench.proofs.Fine.{FineAgreement, FineProposals, Fine}
-use Rattle.bench.proofs.FineAgreements.{cases, getD-all, empty-fine}
+use Rattle.bench.proofs.FineAgreements.{getD-all, empty-fine}
 use Rattle.bench.proofs.FineProposals.{empty-proposals-fine}
 
 -- ---- nothing filed
@@ -93,11 +93,6 @@ module _ (b : Bench) (v : ℕ) where
   pub proposals-fine : v ≤ lastView → Fine b → FineProposals (b .n) (proposalsOf b v)
   unfolding proposalsOf
   proposals-fine h f = either (eqb (b .proposals .view) v) (λ t. rw t (f .proposals)) (λ t. rw t (empty-proposals-fine (b .n) v h))
-
--- what is the same in two records
-pub same-agreement : (b c : Bench) (v : ℕ) → c .even ≡ b .even → c .odd ≡ b .odd → agreementOf c v ≡ agreementOf b v
-unfolding agreementOf
-same-agreement b c v e f = rw (e, f)
 
 pub same-proposals : (b c : Bench) (v : ℕ) → c .proposals ≡ b .proposals → proposalsOf c v ≡ proposalsOf b v
 unfolding proposalsOf
@@ -188,20 +183,6 @@ file-proposal-view g names counts base s i priority =
     (unfit names counts base s i || member (g .aside) i) (member (g .filed) i)
     (sameLog (logIn s) (filedLog names counts base (g .lengths) i) && eqb priority (getD (g .priorities) i 0))
     (λ q. rw q) (λ q v e. rw (q, v, e)) (λ q v e. rw (q, v, e)) (λ q v. rw (q, v))
-
-module _ (b : Bench) (v : ℕ) (names counts : List ℕ) (base : ℕ) (s : List ℕ) (i : ℕ) where
-  pub filed-own : agreementOf (withAgreement b v (fileOf (agreementOf b v) names counts base s i .agreement)) v
-      ≡ fileOf (agreementOf b v) names counts base s i .agreement
-  filed-own =
-      changed-own b v (fileOf (agreementOf b v) names counts base s i .agreement)
-      (file-rest (agreementOf b v) names counts base s i .view ∙ agreement-view b v)
-
-  pub filed-proposal-own : (priority : ℕ)
-      → proposalsOf (withProposals b (fileProposalOf (proposalsOf b v) names counts base s i priority .proposals)) v
-      ≡ fileProposalOf (proposalsOf b v) names counts base s i priority .proposals
-  filed-proposal-own priority =
-      proposals-own b v (fileProposalOf (proposalsOf b v) names counts base s i priority .proposals)
-      (file-proposal-view (proposalsOf b v) names counts base s i priority ∙ proposals-view b v)
 
 -- ---- what a Begin leaves
 

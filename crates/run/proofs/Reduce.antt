@@ -2,15 +2,14 @@
 use Prim.Native.Nat.{ℕ}
 use mathlib.Core.Path.{_≡_, refl, sym, ap, subst, _∙_}
 use mathlib.Core.List.{List, [], _∷_, _++_}
-use mathlib.Core.Option.{Option, some, none}
+use mathlib.Core.Option.{some}
 use mathlib.Core.Bool.{false}
-use native.Mathlib.Omega.{arith}
 use Rattle.message.specs.Logs.{Log}
 use Rattle.message.proofs.LogLaws.{no-conflict-iff}
 use Rattle.bench.specs.Layout.{Held}
-use Rattle.bench.specs.Calls.{Call, begin, Reply, refused, done, took, acted, Opening, Typed, AllTyped}
+use Rattle.bench.specs.Calls.{Call, begin, Typed, AllTyped}
 use Rattle.bench.specs.Acts.{Stand}
-use Rattle.bench.specs.History.{History, fresh, openRefusal, refusal, step, answer, answersFrom, answersTo, afterFrom, after, standIn, stand}
+use Rattle.bench.specs.History.{History, fresh, refusal, step, answer, answersFrom, answersTo, afterFrom, after, standIn, stand}
 use Rattle.run.specs.Places.{Decides, LongestDecided}
 use Rattle.run.specs.Premises.{Volume, Keeps, Delivery, Numbers, Majority}
 use Rattle.run.specs.Demand.{Way, Machine, call, standing, Event, callsIn, runs, answers, OpenedAs, OpensRightly, Claim, Demand3}
@@ -77,26 +76,6 @@ demand3 M F = record {
 }
 
 -- ---- from one call at a time
-
-reply-kind : Reply → ℕ
-reply-kind (refused k) = 0
-reply-kind done = 1
-reply-kind (took w) = 2
-reply-kind (acted m) = 3
-
--- a bench that its Open gave was not refused
-pub opened-ok : (M : Machine) → OpensRightly M → (n own : ℕ) (x : Held (M .Bench)) → OpenedAs M n own x
-    → openRefusal n own (x .lent) ≡ none
-unfolding reply-kind
-opened-ok M O n own x o = go (openRefusal n own (x .lent)) refl
-  where
-    go : (r : Option ℕ) → openRefusal n own (x .lent) ≡ r
-        → openRefusal n own (x .lent) ≡ none
-    go none e = e
-    go (some k) e =
-        let g : done ≡ refused k = sym (ap (λ (y : Opening (M .Bench)). y .reply) (o .given)) ∙ O .refuses n own (x .lent) k (o .typed) e in
-        let z : _≡_ {A = ℕ} 1 0 = ap reply-kind g in
-        absurd (omega arith)
 
 -- A relation between what is held and the history, which Open brings about and every call keeps, answers included.
 pub record Simulation (M : Machine) : Type 1 where

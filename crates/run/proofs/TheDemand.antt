@@ -1,7 +1,6 @@
 -- Demand 3 of the bench: its record and lists stay tied to its history, call by call, and so it is faithful. Assumes nothing.
 use Prim.Native.Nat.{ℕ}
 use native.Mathlib.Omega.{arith}
-use lib.Dec.{ltb}
 use mathlib.Core.Bool.{true, false}
 use mathlib.Core.Option.{some, none, Option·none-ne-some, Option·some-injective}
 use mathlib.Core.Path.{_≡_, refl, sym, ap, subst}
@@ -9,12 +8,12 @@ use Rattle.message.proofs.TestLaws.{either}
 use Rattle.bench.specs.Layout.{Lent, Held, outOfRange, tooShort}
 use Rattle.bench.specs.Calls.{Call, begin, receive, act, refused, done, Opening, Typed}
 use Rattle.bench.specs.History.{History, fresh, openRefusal}
-use Rattle.bench.specs.Record.{freshBench, beyond}
-use Rattle.bench.specs.Calendar.{lastBeat}
-use Rattle.bench.specs.ByRecord.{openOf, beginOf}
+use Rattle.bench.specs.Record.{freshBench}
+use Rattle.bench.specs.ByRecord.{openOf}
 use Rattle.bench.specs.declared.Bench.{Bench}
 use Rattle.bench.proofs.Ties.{Tie}
 use Rattle.bench.proofs.CallTies.{Agrees, begin-agrees, receive-agrees, open-tie}
+use Rattle.bench.proofs.Refusals.{begin-lent}
 use Rattle.bench.proofs.Acting.{act-agrees}
 use Rattle.run.specs.Demand.{Way, call, standing, OpensRightly, OpenedAs, Demand3}
 use Rattle.run.specs.TheBench.{theBench}
@@ -70,15 +69,6 @@ opens-tied n own x o =
 
 -- ---- the theorem
 
--- Begin does not write the lists, whatever the record
-begin-lists : (x : Held Bench) (b : ℕ) → beginOf x b .held .lent ≡ x .lent
-unfolding beginOf
-begin-lists x b =
-    either (beyond (x .bench)) (λ e. rw e)
-    (λ e. either (tooShort (x .lent)) (λ f. rw (e, f))
-    (λ f. either (ltb lastBeat b) (λ g. rw (e, f, g))
-    (λ g. either (ltb b (x .bench .next)) (λ h. rw (e, f, g, h)) (λ h. rw (e, f, g, h)))))
-
 bench-simulates : Simulation theBench
 unfolding standing
 bench-simulates = record {
@@ -89,7 +79,7 @@ bench-simulates = record {
   keeps = λ n own w x p c t y. agrees n own w x p c t y .tied;
   same-standing = λ n own x p t. t .stand-is;
   refusals = λ n own w x p c k t y e. agrees n own w x p c t y .left k e;
-  begins = λ n own w x p b t y. begin-lists x b;
+  begins = λ n own w x p b t y. begin-lent x b;
 }
 
 -- Demand 3.
