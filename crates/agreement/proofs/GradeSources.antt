@@ -32,7 +32,7 @@ pub record GradeSource (n : ℕ) (logs : ℕ → Kept Log) (L : Log) : Type 0 wh
   pub kept : logs sender ≡ only log
   pub extends : Prefix L log
 
-single-heard : {A : Type 0} (k : Kept A) → singleOf k ≡ true → heardOf k ≡ true
+pub single-heard : {A : Type 0} (k : Kept A) → singleOf k ≡ true → heardOf k ≡ true
 single-heard nothing e = e
 single-heard (only a) e = refl
 single-heard differing e = refl
@@ -135,35 +135,27 @@ first-or : {A : Type 0} (t : Bool) (m x : A) (xs : List A) → List·Memᴰ x (p
 first-or true m x xs i = elim (List·Memᴰ·cases-cons i) [ inl e ↦ inl (refl, e) | inr j ↦ inr j ]
 first-or false m x xs i = inr i
 
--- a LOG of view v that bears sender s's number
-pub record LogSource (heard : List Content) (v s : ℕ) (L : Log) : Type 0 where
-  pub message : Content
-  pub among : List·Memᴰ message heard
-  pub view : message .view ≡ v
-  pub sender : message .sender ≡ s
-  pub log : message .log ≡ L
+-- the LOG of sender s in view v with log L
+abbrev pub logBy : ℕ → ℕ → Log → Content
+logBy s v L = record { sender = s; view = v; log = L }
 
-logs-source : (heard : List Content) (v s : ℕ) (L : Log) → List·Memᴰ L (logsFrom heard v s) → LogSource heard v s L
+-- a log among a sender's of a view is that of a LOG heard
+pub logs-mem : (heard : List Content) (v s : ℕ) (L : Log) → List·Memᴰ L (logsFrom heard v s) → List·Memᴰ (logBy s v L) heard
 unfolding logsFrom
-logs-source [] v s L i = absurd (List·Memᴰ·not-nil i)
-logs-source (m ∷ ms) v s L i = elim (first-or (eqb (m .view) v && eqb (m .sender) s) (m .log) L (logsFrom ms v s) i) [
+logs-mem [] v s L i = absurd (List·Memᴰ·not-nil i)
+logs-mem (m ∷ ms) v s L i = elim (first-or (eqb (m .view) v && eqb (m .sender) s) (m .log) L (logsFrom ms v s) i) [
   | inl e ↦
       let b = and-eq-true-iff (eqb (m .view) v) (eqb (m .sender) s) .0 (e .0) in
-      record {
-        message = m;
-        among = List·Memᴰ·head refl;
-        view = eqb-true (m .view) v (b .0);
-        sender = eqb-true (m .sender) s (b .1);
-        log = sym (e .1);
-      }
-  | inr j ↦
-      let x = logs-source ms v s L j in
-      record { message = x .message; among = List·Memᴰ·tail (x .among); view = x .view; sender = x .sender; log = x .log }
+      let x = sym (eqb-true (m .sender) s (b .1)) in
+      let y = sym (eqb-true (m .view) v (b .0)) in
+      let z = e .1 in
+      List·Memᴰ·head (λ k. record { sender = x k; view = y k; log = z k })
+  | inr j ↦ List·Memᴰ·tail (logs-mem ms v s L j)
 ]
 
--- the one log of a sender is that of a LOG heard
-pub heard-source : (heard : List Content) (v s : ℕ) (L : Log) → heardLogs heard v s ≡ only L → LogSource heard v s L
-heard-source heard v s L e = logs-source heard v s L (kept-in sameLog (logsFrom heard v s) L e)
+-- the one log of a sender likewise
+pub heard-source : (heard : List Content) (v s : ℕ) (L : Log) → heardLogs heard v s ≡ only L → List·Memᴰ (logBy s v L) heard
+heard-source heard v s L e = logs-mem heard v s L (kept-in sameLog (logsFrom heard v s) L e)
 
 -- a PROPOSAL of view v that bears sender s's number
 pub record ProposalSource (heard : List ProposalHeard) (v s : ℕ) (a : Proposed) : Type 0 where

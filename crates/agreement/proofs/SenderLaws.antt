@@ -5,9 +5,9 @@ use mathlib.Core.Path.{_≡_, refl, sym, ap, subst, _∙_}
 use mathlib.Core.Logic.{_⊎_, inl, inr}
 use mathlib.Core.List.{List, [], _∷_, List·Memᴰ as Mem, List·Memᴰ·head, List·Memᴰ·tail, List·Memᴰ·cases-cons, List·Memᴰ·not-nil}
 use mathlib.Core.Option.{Option, some, none}
-use mathlib.Core.Bool.{Bool, true, false, not, _&&_, false≢true, and-eq-true-iff}
+use mathlib.Core.Bool.{Bool, true, false, not, _&&_, false≢true}
 use lib.Dec.{eqb}
-use borrow.Author.Tests.{eqb-true, eq-eqb}
+use borrow.Author.Tests.{eq-eqb}
 use Rattle.message.specs.Choice.{pick}
 use Rattle.message.specs.Logs.{Log, sameLog}
 use Rattle.message.specs.Message.{Content}
@@ -16,33 +16,12 @@ use Rattle.message.proofs.LogLaws.{sameLog-iff}
 use Rattle.agreement.specs.Sets.{ones}
 use Rattle.agreement.specs.Reading.{Grade, LongestLog, longest}
 use Rattle.agreement.specs.Filing.{first, second}
-use Rattle.agreement.specs.Kept.{Kept, nothing, only, differing, wordOn, heardOf, singleOf}
+use Rattle.agreement.specs.Kept.{Kept, only, differing, wordOn, heardOf, singleOf}
 use Rattle.agreement.specs.Heard.{someDiffers, keptOf, logsFrom, heardLogs, votersOf, onlyLog, readingFrom, gradeWith}
-use Rattle.agreement.proofs.GradeSources.{reading-heard}
+use Rattle.agreement.proofs.GradeSources.{single-heard, reading-heard, logBy, logs-mem}
 use Rattle.agreement.proofs.LongestLaws.{longest-iff, longest-none-iff}
 
 -- ---- one sender's logs in one view
-
--- the LOG of sender s in view v with log L
-abbrev pub logBy : ℕ → ℕ → Log → Content
-logBy s v L = record { sender = s; view = v; log = L }
-
-pub logs-mem : (heard : List Content) (v s : ℕ) (L : Log) → Mem L (logsFrom heard v s) → Mem (logBy s v L) heard
-unfolding logsFrom
-logs-mem [] v s L i = absurd (List·Memᴰ·not-nil i)
-logs-mem (h ∷ hs) v s L i = go (eqb (h .view) v && eqb (h .sender) s) refl (logs-mem hs v s L) i
-  where
-    go : (t : Bool) → (eqb (h .view) v && eqb (h .sender) s) ≡ t → (Mem L (logsFrom hs v s) → Mem (logBy s v L) hs)
-        → Mem L (pick t (h .log ∷ logsFrom hs v s) (logsFrom hs v s)) → Mem (logBy s v L) (h ∷ hs)
-    go false q below j = List·Memᴰ·tail (below j)
-    go true q below j =
-        let x = and-eq-true-iff _ _ .0 q in
-        let ev = eqb-true (h .view) v (x .0) in
-        let es = eqb-true (h .sender) s (x .1) in
-        elim (List·Memᴰ·cases-cons j) [
-          | inl e ↦ List·Memᴰ·head (λ k. record { sender = sym es k; view = sym ev k; log = e k })
-          | inr k ↦ List·Memᴰ·tail (below k)
-        ]
 
 pub mem-logs : (heard : List Content) (h : Content) → Mem h heard → Mem (h .log) (logsFrom heard (h .view) (h .sender))
 unfolding logsFrom
@@ -135,11 +114,6 @@ some-kept (x ∷ xs) L i = either (someDiffers sameLog x xs) (λ q. rw q) (λ q.
 -- a sender heard is in S
 pub heard-S : (heard : List Content) (h : Content) → Mem h heard → heardOf (heardLogs heard (h .view) (h .sender)) ≡ true
 heard-S heard h i = some-kept (logsFrom heard (h .view) (h .sender)) (h .log) (mem-logs heard h i)
-
-pub single-heard : (k : Kept Log) → singleOf k ≡ true → heardOf k ≡ true
-single-heard nothing e = e
-single-heard (only L) e = refl
-single-heard differing e = refl
 
 -- a log taken of a sender in V is its log
 pub V-only : (heard : List Content) (v s : ℕ) (L : Log) → votersOf (heardLogs heard v) s ≡ true → Mem (logBy s v L) heard

@@ -16,11 +16,11 @@ use Rattle.message.proofs.Codec.{read-written}
 use Rattle.agreement.specs.Record.{withOne, withTwo}
 use Rattle.bench.specs.Layout.{decidedPlace, mostBytes}
 use Rattle.bench.specs.Calendar.{lastView, viewBeat, inputBeat, snapshotOneBeat, snapshotTwoBeat, closeBeat, viewOf, placeIn, actAt}
-use Rattle.bench.specs.Calls.{act, acted, openTo, Typed}
+use Rattle.bench.specs.Calls.{act, acted, openTo, Typed, State}
 use Rattle.bench.specs.Acts.{Seen, mayPropose, isView, inViews, propose, vote, makes, outAfter, decides}
 use Rattle.bench.specs.History.{History, beatNow, refusal, seenAt, madeBy, decidedBy, fileMade, closed, accepted, answer, acceptedAnswer, standIn}
 use Rattle.bench.specs.Record.{agreementOf, proposalsOf, beatOf, idle}
-use Rattle.bench.specs.ByRecord.{State, candidateOf, lockOf, decisionOf, seenOf, settled, snappedOne, snappedTwo, changed, withMade, actedOf, over, actOf}
+use Rattle.bench.specs.ByRecord.{candidateOf, lockOf, decisionOf, seenOf, snappedOne, snappedTwo, snapped, changed, withMade, actedOf, over, actOf}
 use Rattle.bench.specs.declared.Bench.{Bench}
 use Rattle.bench.proofs.Fine.{Fine}
 use Rattle.bench.proofs.FineAgreements.{one-fine, two-fine}
@@ -29,7 +29,7 @@ use Rattle.bench.proofs.Slots.{agreement-fine, agreement-rest, SameBesi
 use Rattle.bench.proofs.GoodHistory.{GoodLog, decided-good, made-good}
 use Rattle.bench.proofs.Ties.{Filled, lastOf, Tie}
 use Rattle.bench.proofs.FilingTies.{file-tie}
-use Rattle.bench.proofs.CallTies.{Agrees, both-refuse, both-accept, in-limits, long-lists, beat-is, started, carries-read}
+use Rattle.bench.proofs.CallTies.{Agrees, both-refuse, both-accept, in-limits, long-lists, beat-same, started, carries-read}
 use Rattle.bench.proofs.SeenTies.{makes-same, decides-same}
 use Rattle.bench.proofs.Settling.{Settled, decision-settled}
 use Rattle.bench.proofs.ActTies.{quiet-filled, one-filled, two-filled}
@@ -89,7 +89,7 @@ module _ (n own : ℕ) (s : State) (p : History) (t : Tie n own s p) (busy : p .
   beat = beatOf (s .bench)
 
   now : beatNow p ≡ beat
-  now = sym (beat-is t)
+  now = sym (beat-same t)
 
   next : s .bench .next ≡ beat + 1
   next = let l = started t busy in omega arith
@@ -154,12 +154,14 @@ module _ (n own : ℕ) (s : State) (p : History) (t : Tie n own s p) (busy : p .
   -- by the rows of the calendar
   changed-tie : (made : Option Meaning) (v r : ℕ) → viewOf beat ≡ v → placeIn beat ≡ r → ((L : Log) → decides (seenOf (over s) v) (actAt r) ≡ some L → GoodLog L)
       → Tie n own (changed (over s) v (actAt r)) (closed p made (decides (seenOf (over s) v) (actAt r)))
-  unfolding changed settled
-  changed-tie made v zero ev er good = settled-tie made none (decision-settled n own s p t none good) (λ u l. ((λ z. omega arith), (λ z. omega arith)))
-  changed-tie made v (suc zero) ev er good = settled-tie made none (decision-settled n own s p t none good) (λ u l. ((λ z. omega arith), (λ z. omega arith)))
-  changed-tie made v (suc (suc zero)) ev er good =
-      one-tie made (decisionOf (over s) v) v (decision-settled n own s p t (decisionOf (over s) v) good) (omega arith)
-  changed-tie made v (suc (suc (suc r))) ev er good = two-tie made none v (decision-settled n own s p t none good) (omega arith)
+  unfolding changed
+  changed-tie made v r ev er good = snap r er (decision-settled n own s p t (decides (seenOf (over s) v) (actAt r)) good)
+    where
+      snap : (k : ℕ) → placeIn beat ≡ k → {d : Option Log} {x : State} → Settled n own s p d x → Tie n own (snapped v (actAt k) x) (closed p made d)
+      snap zero e {d} w = settled-tie made d w (λ u l. ((λ z. omega arith), (λ z. omega arith)))
+      snap (suc zero) e {d} w = settled-tie made d w (λ u l. ((λ z. omega arith), (λ z. omega arith)))
+      snap (suc (suc zero)) e {d} w = one-tie made d v w (omega arith)
+      snap (suc (suc (suc k))) e {d} w = two-tie made d v w (omega arith)
 
   -- ---- what is made and decided
 

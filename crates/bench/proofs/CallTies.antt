@@ -19,12 +19,12 @@ use Rattle.agreement.specs.Record.{emptyAgreement}
 use Rattle.agreement.specs.Proposals.{emptyProposals}
 use Rattle.agreement.specs.declared.Agreement.{Agreement}
 use Rattle.agreement.specs.declared.Proposals.{Proposals}
-use Rattle.bench.specs.Layout.{isEven, decidedPlace, leastLent, Lent, tooShort, outOfRange}
+use Rattle.bench.specs.Layout.{isEven, decidedPlace, leastLent, Lent, shortLists, outOfRange}
 use Rattle.bench.specs.Calendar.{lastBeat}
-use Rattle.bench.specs.Calls.{Call, begin, receive, refused, took, Step, openTo}
+use Rattle.bench.specs.Calls.{Call, begin, receive, refused, took, Step, openTo, State}
 use Rattle.bench.specs.History.{History, fresh, orZero, beatNow, notAbove, refusal, wordFor, accepted, answer, acceptedAnswer, step, standIn}
 use Rattle.bench.specs.Record.{freshBench, agreementOf, proposalsOf, beatOf, notAboveLast, idle, beyond}
-use Rattle.bench.specs.ByRecord.{State, refuse, begun, beginOf, fileMessage, taken, receives, receiveOf}
+use Rattle.bench.specs.ByRecord.{refuse, begun, beginOf, fileMessage, taken, receives, receiveOf}
 use Rattle.bench.specs.declared.Bench.{Bench}
 use Rattle.bench.proofs.Fine.{not-beyond}
 use Rattle.bench.proofs.FineBench.{fresh-fine, begun-fine}
@@ -36,7 +36,7 @@ use Rattle.bench.proofs.LogTies.{Carries}
 use Rattle.bench.proofs.FilingTies.{file-tie}
 
 -- What a call of the record has to do with the history's: the same answer; tied afterwards; and a refusal leaves record and lists.
-pub record Agrees (n own : ℕ) (s : State) (p : History) (c : Call) (r : Step Bench) : Type 0 where
+pub record Agrees (n own : ℕ) (s : State) (p : History) (c : Call) (r : Step) : Type 0 where
   pub answered : r .answer ≡ answer n own p c
   pub tied : Tie n own (r .held) (step n own p c)
   pub left : (k : ℕ) → refusal n p c ≡ some k → r .held ≡ s
@@ -48,7 +48,7 @@ module _ (n own : ℕ) (s : State) (p : History) (t : Tie n own s p) (c : Call) 
   both-refuse out k e a = record { answered = sym a; tied = rw e t; left = λ j f. refl }
 
   -- both accept
-  pub both-accept : (r : Step Bench) → refusal n p c ≡ none → r .answer ≡ acceptedAnswer n own p c → Tie n own (r .held) (accepted n own p c) → Agrees n own s p c r
+  pub both-accept : (r : Step) → refusal n p c ≡ none → r .answer ≡ acceptedAnswer n own p c → Tie n own (r .held) (accepted n own p c) → Agrees n own s p c r
   unfolding step answer
   both-accept r e a h = record { answered = rw e a; tied = rw e h; left = λ k f. absurd (Option·none-ne-some _ (sym e ∙ f)) }
 
@@ -57,12 +57,15 @@ module _ {n own : ℕ} {s : State} {p : History} (t : Tie n own s p) where
   pub in-limits : beyond (s .bench) ≡ false
   in-limits = not-beyond (s .bench) (t .fine)
 
-  pub long-lists : tooShort (s .lent) ≡ false
-  long-lists = rw (le-ltb (length (s .lent .names)) leastLent (t .roomy .names), le-ltb (length (s .lent .counts)) leastLent (t .roomy .counts))
+  pub long-lists : shortLists (s .lent) ≡ false
+  long-lists =
+      let a = le-ltb (length (s .lent .names)) leastLent (t .roomy .names) in
+      let b = le-ltb (length (s .lent .counts)) leastLent (t .roomy .counts) in
+      λ i. a i || b i
 
   -- the beat, and whether a gathering is under way
-  pub beat-is : beatOf (s .bench) ≡ beatNow p
-  beat-is = go (s .bench .next) (t .last-is)
+  pub beat-same : beatOf (s .bench) ≡ beatNow p
+  beat-same = go (s .bench .next) (t .last-is)
     where
       go : (next : ℕ) → lastOf next ≡ p .last → next - 1 ≡ beatNow p
       go zero e = ap orZero e
@@ -82,8 +85,8 @@ module _ {n own : ℕ} {s : State} {p : History} (t : Tie n own s p) where
 -- ---- Begin
 
 -- both tell in the same way whether a beat is above the last begun
-above-last : (s : Bench) (beat : ℕ) → notAboveLast s beat ≡ notAbove beat (lastOf (s .next))
-above-last s beat = go (s .next)
+above-same : (s : Bench) (beat : ℕ) → notAboveLast s beat ≡ notAbove beat (lastOf (s .next))
+above-same s beat = go (s .next)
   where
     go : (next : ℕ) → ltb beat next ≡ notAbove beat (lastOf next)
     go zero = le-ltb beat 0 (omega arith)
@@ -124,7 +127,7 @@ module _ (n own : ℕ) (s : State) (p : History) (t : Tie n own s p) (beat : ℕ
   pub begin-agrees : Agrees n own s p (begin beat) (beginOf s beat)
   unfolding beginOf refusal answer acceptedAnswer
   begin-agrees =
-      let above = above-last (s .bench) beat ∙ ap (notAbove beat) (t .last-is) in
+      let above = above-same (s .bench) beat ∙ ap (notAbove beat) (t .last-is) in
       either (ltb lastBeat beat)
       (λ e. rw (in-limits t, long-lists t, e) (both-refuse n own s p t (begin beat) [] 10 (rw e) (rw e)))
       (λ e. either (notAboveLast (s .bench) beat)
@@ -153,13 +156,13 @@ module _ (n own : ℕ) (s : State) (p : History) (t : Tie n own s p) (bytes : Li
   reading-agrees g (means m) e =
       either (openTo m (beatOf (s .bench)))
       (λ w.
-      let w′ : openTo m (beatNow p) ≡ true = ap (openTo m) (sym (beat-is t)) ∙ w in
+      let w′ : openTo m (beatNow p) ≡ true = ap (openTo m) (sym (beat-same t)) ∙ w in
       let x = file-tie n own s p t bytes (started t g) m (read-writable n bytes m typed e) (carries-read n bytes m e) w in
       let word : took (fileMessage s bytes m .word) ≡ took (wordFor p m) = ap took (x .0) in
       rw w
       (both-accept n own s p t (receive bytes) (taken (fileMessage s bytes m)) (rw (g, e, w′)) (rw e (λ i. record { reply = word i; out = [] })) (rw e (x .1))))
       (λ w.
-      let w′ : openTo m (beatNow p) ≡ false = ap (openTo m) (sym (beat-is t)) ∙ w in
+      let w′ : openTo m (beatNow p) ≡ false = ap (openTo m) (sym (beat-same t)) ∙ w in
       rw w (both-refuse n own s p t (receive bytes) [] 21 (rw (g, e, w′)) (rw (g, e, w′))))
 
   pub receive-agrees : Agrees n own s p (receive bytes) (receiveOf s bytes)
@@ -176,7 +179,7 @@ module _ (n own : ℕ) (s : State) (p : History) (t : Tie n own s p) (bytes : Li
 
 -- ---- Open
 
-pub open-tie : (n own : ℕ) (l : Lent) → outOfRange n own ≡ false → tooShort l ≡ false → AllBelow (2 ^ 64) (l .names) → AllBelow (2 ^ 16) (l .counts)
+pub open-tie : (n own : ℕ) (l : Lent) → outOfRange n own ≡ false → shortLists l ≡ false → AllBelow (2 ^ 64) (l .names) → AllBelow (2 ^ 16) (l .counts)
     → Tie n own (record { bench = freshBench n own; lent = l }) fresh
 unfolding standIn agreementOf proposalsOf
 open-tie n own l r h names counts =

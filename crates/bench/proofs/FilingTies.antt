@@ -8,10 +8,10 @@ use borrow.Author.Tests.{leb-true}
 use lib.Dec.{leb}
 use Rattle.message.specs.Message.{Meaning, logMessage, proposalMessage, logOf, WritableMeaning}
 use Rattle.bench.specs.Calendar.{viewBeat, inputBeat, closeBeat}
-use Rattle.bench.specs.Calls.{openTo}
+use Rattle.bench.specs.Calls.{openTo, State}
 use Rattle.bench.specs.History.{History, file, wordFor}
 use Rattle.bench.specs.Record.{beatOf}
-use Rattle.bench.specs.ByRecord.{State, fileMessage}
+use Rattle.bench.specs.ByRecord.{fileMessage}
 use Rattle.bench.proofs.Ties.{Tie}
 use Rattle.bench.proofs.LogTies.{Carries, log-word, log-tie}
 use Rattle.bench.proofs.ProposalTies.{proposal-word-tie, proposal-tie}

@@ -20,7 +20,7 @@ use Rattle.message.proofs.PartLaws.{append-below}
 use Rattle.message.proofs.Codec.{read-writable}
 use Rattle.agreement.specs.Heard.{heardLogs, ProposalHeard, heardProposals, voteAmong}
 use Rattle.agreement.proofs.GradeSources.{GradeSource, gradeNow-source, gradeWith-source, heard-source, vote-from, proposed-source}
-use Rattle.bench.specs.Calendar.{viewOf, placeIn, Act, proposing, voting, deciding, looking, actAt}
+use Rattle.bench.specs.Calendar.{viewOf, placeIn, Act, proposing, voting, deciding, snapping, actAt}
 use Rattle.bench.specs.Calls.{Call, begin, receive, act, Typed, AllTyped}
 use Rattle.bench.specs.Acts.{mayPropose, propose, vote, isView, inViews, makes, decides}
 use Rattle.bench.specs.History.{History, fresh, beatNow, refusal, file, candidateAt, lockAt, decisionAt, seenAt, madeBy, decidedBy, fileRead, fileMade, closed, accepted, orAccepted, step, afterFrom, after}
@@ -105,8 +105,7 @@ module _ (n : ℕ) (p : History) (g : GoodHistory n p) where
   -- a log with a grade is a prefix of one heard
   graded-good : (u : ℕ) (L : Log) → GradeSource n (heardLogs (p .heard) u) L → GoodLog L
   graded-good u L s =
-      let m = heard-source (p .heard) u (s .sender) (s .log) (s .kept) in
-      prefix-good (s .extends) (subst GoodLog (m .log) (writable-log (g .heard (m .message) (m .among))))
+      prefix-good (s .extends) (writable-log (g .heard _ (heard-source (p .heard) u (s .sender) (s .log) (s .kept))))
 
   pub candidate-good : (v : ℕ) (L : Log) → candidateAt n p v ≡ some L → GoodLog L
   unfolding candidateAt
@@ -144,7 +143,7 @@ module _ (n : ℕ) (p : History) (g : GoodHistory n p) where
       go proposing q = absurd (Option·none-ne-some L q)
       go voting q = absurd (Option·none-ne-some L q)
       go deciding q = decision-good (viewOf (beatNow p)) L q
-      go looking q = absurd (Option·none-ne-some L q)
+      go snapping q = absurd (Option·none-ne-some L q)
 
 -- ---- what it makes
 
@@ -183,7 +182,7 @@ module _ (n own : ℕ) (block : Block) (priority : ℕ)
         inViews-good v (vote own v (voteAmong n (heardProposals (p .proposals) v)) (lockAt n p v))
         (λ lv. votes-good v (voteAmong n (heardProposals (p .proposals) v)) (lockAt n p v) lv (λ L e. vote-good n p g v L (lock-good n p g v L e)))
     makes-good v deciding = tt
-    makes-good v looking = tt
+    makes-good v snapping = tt
 
     made : GoodMade n (madeBy n own p block priority)
     unfolding madeBy

@@ -20,11 +20,12 @@ use Rattle.agreement.specs.declared.Proposals.{Proposals}
 use Rattle.agreement.proofs.KeptLaws.{file-word, file-kept, file-apart, file-rest}
 use Rattle.agreement.proofs.ElsewhereLaws.{Elsewhere, file-elsewhere}
 use Rattle.agreement.proofs.KeptOfLaws.{heard-same, heard-other}
+use Rattle.bench.specs.Calls.{State}
 use Rattle.bench.specs.Layout.{logsPlace, decidedPlace, Lent}
 use Rattle.bench.specs.Calendar.{lastView, inputBeat, closeBeat}
 use Rattle.bench.specs.History.{History, file, wordFor}
 use Rattle.bench.specs.Record.{agreementOf, proposalsOf, withAgreement}
-use Rattle.bench.specs.ByRecord.{State, decidedLog}
+use Rattle.bench.specs.ByRecord.{decidedLog}
 use Rattle.bench.specs.declared.Bench.{Bench}
 use Rattle.bench.proofs.Fine.{FineAgreement}
 use Rattle.bench.proofs.FineAgreements.{file-fine}

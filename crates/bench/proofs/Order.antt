@@ -13,10 +13,10 @@ use Rattle.agreement.specs.Sets.{weigh}
 use Rattle.agreement.specs.Record.{emptyAgreement}
 use Rattle.agreement.specs.Proposals.{emptyProposals}
 use Rattle.bench.specs.Layout.{Lent}
-use Rattle.bench.specs.Calls.{Reply, refused, done, acted}
+use Rattle.bench.specs.Calls.{Reply, refused, done, acted, State}
 use Rattle.bench.specs.Acts.{makes}
 use Rattle.bench.specs.Record.{anyPlace, beyondAgreement, beyondProposals, beyond, agreementOf, withAgreement}
-use Rattle.bench.specs.ByRecord.{State, openOf, beginOf, receiveOf, snappedTwo, changed, actedOf, actOf}
+use Rattle.bench.specs.ByRecord.{openOf, beginOf, receiveOf, settled, snappedTwo, changed, actedOf, actOf}
 use Rattle.bench.specs.declared.Bench.{Bench}
 use Rattle.bench.proofs.Odd.{plain}
 
@@ -143,6 +143,6 @@ rows =
 
 pub rows-hold : map worked rows ≡ map stated rows
 unfolding
-    openOf beginOf receiveOf actedOf actOf makes changed snappedTwo agreementOf withAgreement readOf malformed meaningIn some numberAt numbersAt inStep
+    openOf beginOf receiveOf actedOf actOf makes changed settled snappedTwo agreementOf withAgreement readOf malformed meaningIn some numberAt numbersAt inStep
     beyond beyondAgreement beyondProposals anyPlace weigh
 rows-hold = refl

@@ -18,11 +18,12 @@ use Rattle.agreement.specs.declared.Proposals.{Proposals}
 use Rattle.agreement.proofs.KeptLaws.{proposal-word, proposal-kept, proposal-apart}
 use Rattle.agreement.proofs.ElsewhereLaws.{Elsewhere, proposal-elsewhere}
 use Rattle.agreement.proofs.KeptOfLaws.{proposals-same, proposals-other}
+use Rattle.bench.specs.Calls.{State}
 use Rattle.bench.specs.Layout.{proposalsPlace, decidedPlace, Lent}
 use Rattle.bench.specs.Calendar.{viewBeat, inputBeat}
 use Rattle.bench.specs.History.{History, file, wordFor}
 use Rattle.bench.specs.Record.{agreementOf, proposalsOf, withProposals}
-use Rattle.bench.specs.ByRecord.{State, decidedLog}
+use Rattle.bench.specs.ByRecord.{decidedLog}
 use Rattle.bench.specs.declared.Bench.{Bench}
 use Rattle.bench.proofs.Fine.{FineProposals}
 use Rattle.bench.proofs.FineProposals.{file-proposal-fine}

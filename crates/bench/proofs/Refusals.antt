@@ -12,12 +12,11 @@ use Rattle.message.specs.Logs.{Block}
 use Rattle.message.specs.Message.{Meaning, Reading, refused as unread, means, readOf}
 use Rattle.message.proofs.TestLaws.{either}
 use Rattle.agreement.specs.Filing.{Word}
-use Rattle.bench.specs.Layout.{mostBytes, Lent, tooShort, outOfRange}
+use Rattle.bench.specs.Layout.{mostBytes, Lent, shortLists, outOfRange}
 use Rattle.bench.specs.Calendar.{lastBeat, viewOf, placeIn, actAt}
-use Rattle.bench.specs.Calls.{refused, done, took, acted, Step, openTo}
+use Rattle.bench.specs.Calls.{refused, done, took, acted, Step, openTo, State}
 use Rattle.bench.specs.Record.{freshBench, beatOf, idle, beyond}
-use Rattle.bench.specs.ByRecord.{State, refuse, notOpened, openOf, begun, beginOf, fileMessage, taken, receives, receiveOf, actedOf, over, actOf}
-use Rattle.bench.specs.declared.Bench.{Bench}
+use Rattle.bench.specs.ByRecord.{refuse, notOpened, openOf, begun, beginOf, fileMessage, taken, receives, receiveOf, actedOf, over, actOf}
 use Rattle.bench.proofs.ReadRefusals.{ReadCause, read-refuses, read-cause, read-number}
 
 -- ---- answers apart
@@ -41,25 +40,25 @@ module _ (n own : ℕ) (l : Lent) where
   unfolding openOf
   open-7 e = rw e
 
-  pub open-8 : outOfRange n own ≡ false → tooShort l ≡ true → openOf n own l ≡ notOpened 8
+  pub open-8 : outOfRange n own ≡ false → shortLists l ≡ true → openOf n own l ≡ notOpened 8
   unfolding openOf
   open-8 e f = rw (e, f)
 
-  pub open-done : outOfRange n own ≡ false → tooShort l ≡ false → openOf n own l ≡ record { reply = done; bench = freshBench n own }
+  pub open-done : outOfRange n own ≡ false → shortLists l ≡ false → openOf n own l ≡ record { reply = done; bench = freshBench n own }
   unfolding openOf
   open-done e f = rw (e, f)
 
   -- Open refuses by k
   pub data OpenCause : ℕ → Type 0 where
     open-range : outOfRange n own ≡ true → OpenCause 7
-    open-lists : outOfRange n own ≡ false → tooShort l ≡ true → OpenCause 8
+    open-lists : outOfRange n own ≡ false → shortLists l ≡ true → OpenCause 8
 
   pub open-cause : (k : ℕ) → openOf n own l .reply ≡ refused k → OpenCause k
   unfolding openOf
   open-cause k r =
       either (outOfRange n own)
       (λ e. subst OpenCause (same-number 7 k (rw e at r)) (open-range e))
-      (λ e. either (tooShort l)
+      (λ e. either (shortLists l)
       (λ f. subst OpenCause (same-number 8 k (rw (e, f) at r)) (open-lists e f))
       (λ f. done-apart k (rw (e, f) at r)))
 
@@ -77,11 +76,11 @@ no-bench = refl
 -- neither of them holds
 pub record Usable (s : State) : Type 0 where
   pub within : beyond (s .bench) ≡ false
-  pub room : tooShort (s .lent) ≡ false
+  pub room : shortLists (s .lent) ≡ false
 
 -- what is left by a call that is refused
-leaves : {s : State} {out : List ℕ} {k : ℕ} {t : Step Bench} → t ≡ refuse s out k → (t .held ≡ s) × (t .answer .out ≡ out)
-leaves e = (ap (λ (x : Step Bench). x .held) e, ap (λ (x : Step Bench). x .answer .out) e)
+leaves : {s : State} {out : List ℕ} {k : ℕ} {t : Step} → t ≡ refuse s out k → (t .held ≡ s) × (t .answer .out ≡ out)
+leaves e = (ap (λ (x : Step). x .held) e, ap (λ (x : Step). x .answer .out) e)
 
 module _ (s : State) (e : beyond (s .bench) ≡ true) where
   pub begin-9 : (beat : ℕ) → beginOf s beat ≡ refuse s [] 9
@@ -96,7 +95,7 @@ module _ (s : State) (e : beyond (s .bench) ≡ true) where
   unfolding actOf
   act-9 block priority out = rw e
 
-module _ (s : State) (e : beyond (s .bench) ≡ false) (f : tooShort (s .lent) ≡ true) where
+module _ (s : State) (e : beyond (s .bench) ≡ false) (f : shortLists (s .lent) ≡ true) where
   pub begin-8 : (beat : ℕ) → beginOf s beat ≡ refuse s [] 8
   unfolding beginOf
   begin-8 beat = rw (e, f)
@@ -127,7 +126,7 @@ module _ (s : State) (beat : ℕ) where
   -- Begin refuses by k
   pub data BeginCause : ℕ → Type 0 where
     begin-limits : beyond (s .bench) ≡ true → BeginCause 9
-    begin-lists : beyond (s .bench) ≡ false → tooShort (s .lent) ≡ true → BeginCause 8
+    begin-lists : beyond (s .bench) ≡ false → shortLists (s .lent) ≡ true → BeginCause 8
     begin-late : Usable s → ltb lastBeat beat ≡ true → BeginCause 10
     begin-again : Usable s → ltb lastBeat beat ≡ false → ltb beat (s .bench .next) ≡ true → BeginCause 20
 
@@ -135,7 +134,7 @@ module _ (s : State) (beat : ℕ) where
   unfolding beginOf
   begin-cause k r =
       either (beyond (s .bench)) (λ e. subst BeginCause (same-number 9 k (rw e at r)) (begin-limits e)) (λ e.
-      either (tooShort (s .lent)) (λ f. subst BeginCause (same-number 8 k (rw (e, f) at r)) (begin-lists e f)) (λ f.
+      either (shortLists (s .lent)) (λ f. subst BeginCause (same-number 8 k (rw (e, f) at r)) (begin-lists e f)) (λ f.
       let u : Usable s = record { within = e; room = f } in
       either (ltb lastBeat beat) (λ g. subst BeginCause (same-number 10 k (rw (e, f, g) at r)) (begin-late u g)) (λ g.
       either (ltb beat (s .bench .next)) (λ h. subst BeginCause (same-number 20 k (rw (e, f, g, h) at r)) (begin-again u g h)) (λ h.
@@ -159,7 +158,7 @@ pub begin-lent : (s : State) (beat : ℕ) → beginOf s beat .held .lent ≡ s .
 unfolding beginOf
 begin-lent s beat =
     either (beyond (s .bench)) (λ e. rw e)
-    (λ e. either (tooShort (s .lent)) (λ f. rw (e, f))
+    (λ e. either (shortLists (s .lent)) (λ f. rw (e, f))
     (λ f. either (ltb lastBeat beat) (λ g. rw (e, f, g))
     (λ g. either (ltb beat (s .bench .next)) (λ h. rw (e, f, g, h)) (λ h. rw (e, f, g, h)))))
 
@@ -190,7 +189,7 @@ module _ (s : State) (bytes : List ℕ) where
   -- Receive refuses by k
   pub data ReceiveCause : ℕ → Type 0 where
     receive-limits : beyond (s .bench) ≡ true → ReceiveCause 9
-    receive-lists : beyond (s .bench) ≡ false → tooShort (s .lent) ≡ true → ReceiveCause 8
+    receive-lists : beyond (s .bench) ≡ false → shortLists (s .lent) ≡ true → ReceiveCause 8
     receive-idle : Usable s → idle (s .bench) ≡ true → ReceiveCause 22
     receive-unread : {k : ℕ} → Usable s → idle (s .bench) ≡ false → ReadCause (s .bench .n) bytes k → ReceiveCause k
     receive-shut : Usable s → idle (s .bench) ≡ false → (m : Meaning) → readOf (s .bench .n) bytes ≡ means m
@@ -200,7 +199,7 @@ module _ (s : State) (bytes : List ℕ) where
   unfolding receiveOf
   receive-cause k r =
       either (beyond (s .bench)) (λ e. subst ReceiveCause (same-number 9 k (rw e at r)) (receive-limits e)) (λ e.
-      either (tooShort (s .lent)) (λ f. subst ReceiveCause (same-number 8 k (rw (e, f) at r)) (receive-lists e f)) (λ f.
+      either (shortLists (s .lent)) (λ f. subst ReceiveCause (same-number 8 k (rw (e, f) at r)) (receive-lists e f)) (λ f.
       let u : Usable s = record { within = e; room = f } in
       either (idle (s .bench)) (λ g. subst ReceiveCause (same-number 22 k (rw (e, f, g) at r)) (receive-idle u g)) (λ g.
       judged u g (readOf (s .bench .n) bytes) refl (rw (e, f, g) at r))))
@@ -245,7 +244,7 @@ module _ (s : State) (block : Block) (priority : ℕ) (out : List ℕ) where
   -- Act refuses by k
   pub data ActCause : ℕ → Type 0 where
     act-limits : beyond (s .bench) ≡ true → ActCause 9
-    act-lists : beyond (s .bench) ≡ false → tooShort (s .lent) ≡ true → ActCause 8
+    act-lists : beyond (s .bench) ≡ false → shortLists (s .lent) ≡ true → ActCause 8
     act-buffer : Usable s → ltb (length out) mostBytes ≡ true → ActCause 11
     act-idle : Usable s → ltb (length out) mostBytes ≡ false → idle (s .bench) ≡ true → ActCause 22
 
@@ -253,7 +252,7 @@ module _ (s : State) (block : Block) (priority : ℕ) (out : List ℕ) where
   unfolding actOf actedOf
   act-cause k r =
       either (beyond (s .bench)) (λ e. subst ActCause (same-number 9 k (rw e at r)) (act-limits e)) (λ e.
-      either (tooShort (s .lent)) (λ f. subst ActCause (same-number 8 k (rw (e, f) at r)) (act-lists e f)) (λ f.
+      either (shortLists (s .lent)) (λ f. subst ActCause (same-number 8 k (rw (e, f) at r)) (act-lists e f)) (λ f.
       let u : Usable s = record { within = e; room = f } in
       either (ltb (length out) mostBytes) (λ g. subst ActCause (same-number 11 k (rw (e, f, g) at r)) (act-buffer u g)) (λ g.
       either (idle (s .bench)) (λ h. subst ActCause (same-number 22 k (rw (e, f, g, h) at r)) (act-idle u g h)) (λ h.
@@ -279,19 +278,19 @@ module _ (s : State) where
   pub begin-9-only : {beat : ℕ} → BeginCause s beat 9 → beyond (s .bench) ≡ true
   begin-9-only (begin-limits e) = e
 
-  pub begin-8-only : {beat : ℕ} → BeginCause s beat 8 → tooShort (s .lent) ≡ true
+  pub begin-8-only : {beat : ℕ} → BeginCause s beat 8 → shortLists (s .lent) ≡ true
   begin-8-only (begin-lists e f) = f
 
   pub receive-9-only : {bytes : List ℕ} → ReceiveCause s bytes 9 → beyond (s .bench) ≡ true
   receive-9-only (receive-limits e) = e
   receive-9-only {bytes} (receive-unread u g c) = absurd (omega (arith, read-number (s .bench .n) bytes c))
 
-  pub receive-8-only : {bytes : List ℕ} → ReceiveCause s bytes 8 → tooShort (s .lent) ≡ true
+  pub receive-8-only : {bytes : List ℕ} → ReceiveCause s bytes 8 → shortLists (s .lent) ≡ true
   receive-8-only (receive-lists e f) = f
   receive-8-only {bytes} (receive-unread u g c) = absurd (omega (arith, read-number (s .bench .n) bytes c))
 
   pub act-9-only : {block : Block} {priority : ℕ} {out : List ℕ} → ActCause s block priority out 9 → beyond (s .bench) ≡ true
   act-9-only (act-limits e) = e
 
-  pub act-8-only : {block : Block} {priority : ℕ} {out : List ℕ} → ActCause s block priority out 8 → tooShort (s .lent) ≡ true
+  pub act-8-only : {block : Block} {priority : ℕ} {out : List ℕ} → ActCause s block priority out 8 → shortLists (s .lent) ≡ true
   act-8-only (act-lists e f) = f

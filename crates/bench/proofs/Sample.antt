@@ -20,11 +20,10 @@ use Rattle.agreement.specs.Proposals.{fileProposalOf, bestOf}
 use Rattle.agreement.specs.Kept.{keptProposal}
 use Rattle.agreement.specs.Heard.{voteAmong}
 use Rattle.bench.specs.Layout.{leastLent, mostBytes}
-use Rattle.bench.specs.Calls.{Reply, done, acted, Step}
+use Rattle.bench.specs.Calls.{Reply, done, acted, Step, State}
 use Rattle.bench.specs.Acts.{propose, vote, makes}
 use Rattle.bench.specs.Record.{freshBench, agreementOf, proposalsOf, withAgreement, anyPlace, beyondAgreement, beyondProposals, beyond}
-use Rattle.bench.specs.ByRecord.{State, keptAgreement, keptProposals, beginOf, fileMessage, receiveOf, candidateOf, lockOf, decisionOf, settled, snappedOne, snappedTwo, changed, actedOf, actOf, decidedLog}
-use Rattle.bench.specs.declared.Bench.{Bench}
+use Rattle.bench.specs.ByRecord.{keptAgreement, keptProposals, beginOf, fileMessage, receiveOf, candidateOf, lockOf, decisionOf, settled, snappedOne, snappedTwo, changed, actedOf, actOf, decidedLog}
 
 -- ---- a roll
 
@@ -65,8 +64,8 @@ heardIn (at beat) s = s
 unfoldable pub rollFrom : State → List ℕ → List Event → List Line
 rollFrom s out [] = []
 rollFrom s out (o ∷ os) =
-    let b : Step Bench = beginOf s (beatIn o) in
-    let a : Step Bench = actOf (heardIn o (b .held)) (blockIn o) (priorityIn o) out in
+    let b : Step = beginOf s (beatIn o) in
+    let a : Step = actOf (heardIn o (b .held)) (blockIn o) (priorityIn o) out in
     record { begun = b .answer .reply; made = a .answer .reply; decided = decidedLog (a .held); parted = a .held .bench .parted }
     ∷ rollFrom (a .held) (a .answer .out) os
 

@@ -18,12 +18,13 @@ use Rattle.agreement.specs.Kept.{Kept, Proposed, keptLog, keptProposal}
 use Rattle.agreement.specs.Heard.{heardLogs, gradeNow, gradeWith, heardProposals, voteAmong}
 use Rattle.agreement.specs.declared.Agreement.{Agreement}
 use Rattle.agreement.proofs.RecordLaws.{Within, grade-zero, grade-one, grade-two, gradeNow-cong, gradeWith-cong, vote-kept}
+use Rattle.bench.specs.Calls.{State}
 use Rattle.bench.specs.Layout.{logsPlace, proposalsPlace}
 use Rattle.bench.specs.Calendar.{lastView, lastBeat, inputBeat, closeBeat, viewOf, placeIn, actAt}
 use Rattle.bench.specs.Acts.{isView, inViews, propose, vote, makes, decides}
 use Rattle.bench.specs.History.{History, candidateAt, lockAt, decisionAt, seenAt}
 use Rattle.bench.specs.Record.{agreementOf, proposalsOf}
-use Rattle.bench.specs.ByRecord.{State, candidateOf, lockOf, decisionOf, seenOf}
+use Rattle.bench.specs.ByRecord.{candidateOf, lockOf, decisionOf, seenOf}
 use Rattle.bench.specs.declared.Bench.{Bench}
 use Rattle.bench.proofs.Fine.{FineAgreement}
 use Rattle.bench.proofs.Slots.{agreement-fine, proposals-fine}

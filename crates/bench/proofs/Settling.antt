@@ -13,16 +13,17 @@ use Rattle.message.specs.Store.{logAt}
 use Rattle.message.proofs.TestLaws.{either}
 use Rattle.message.proofs.ListedLaws.{log-stored}
 use Rattle.agreement.proofs.ElsewhereLaws.{Elsewhere, put-elsewhere}
+use Rattle.bench.specs.Calls.{State}
 use Rattle.bench.specs.Layout.{decidedPlace, Lent}
 use Rattle.bench.specs.Acts.{Stand, settle}
 use Rattle.bench.specs.History.{History, standIn}
 use Rattle.bench.specs.Record.{agreementOf, proposalsOf, withGatheringOver, withDecided, withParted}
-use Rattle.bench.specs.ByRecord.{State, decidedLog, over, settled}
+use Rattle.bench.specs.ByRecord.{decidedLog, over, settled, standing}
 use Rattle.bench.specs.declared.Bench.{Bench}
 use Rattle.bench.proofs.Fine.{Fine}
 use Rattle.bench.proofs.FineBench.{over-fine, decided-fine, parted-fine}
 use Rattle.bench.proofs.GoodHistory.{GoodLog}
-use Rattle.bench.proofs.Ties.{Filled, Roomy, standOf, Tie}
+use Rattle.bench.proofs.Ties.{Filled, Roomy, Tie}
 use Rattle.bench.proofs.Filling.{filled-decided}
 use Rattle.bench.proofs.LogTies.{roomy-elsewhere}
 
@@ -35,7 +36,7 @@ pub record Settled (n own : ℕ) (s : State) (p : History) (d : Option Log) (x :
   pub fine : Fine (x .bench)
   pub roomy : Roomy (x .lent)
   pub filled : Filled (x .bench) (x .lent) p
-  pub stand-is : standOf x ≡ settle (standIn (p .actions)) d
+  pub stand-is : standing x ≡ settle (standIn (p .actions)) d
 
 -- a record with the same agreements, proposals and beat holds the same
 same-filled : {b c : Bench} {l : Lent} {p : History} → c .next ≡ b .next → c .even ≡ b .even → c .odd ≡ b .odd → c .proposals ≡ b .proposals → Filled b l p → Filled c l p
@@ -92,7 +93,7 @@ module _ (n own : ℕ) (s : State) (p : History) (t : Tie n own s p) where
         let e′ : isPrefix (standIn (p .actions) .log) L ≡ true = ap (λ (x : Log). isPrefix x L) (sym stands) ∙ e in
         let a = there in
         let m = marked in
-        let st : standOf (record { bench = withDecided (withGatheringOver (s .bench)) (length L); lent = record { names = put (s .lent .names) decidedPlace (namesOf L); counts = put (s .lent .counts) decidedPlace (countsOf L) } }) ≡ record { log = L; parted = standIn (p .actions) .parted } =
+        let st : standing (record { bench = withDecided (withGatheringOver (s .bench)) (length L); lent = record { names = put (s .lent .names) decidedPlace (namesOf L); counts = put (s .lent .counts) decidedPlace (countsOf L) } }) ≡ record { log = L; parted = standIn (p .actions) .parted } =
         λ i. record { log = a i; parted = m i } in
         let z : settle (standIn (p .actions)) (some L) ≡ record { log = L; parted = standIn (p .actions) .parted } = rw e′ in
         rw e (record {
@@ -124,7 +125,7 @@ module _ (n own : ℕ) (s : State) (p : History) (t : Tie n own s p) where
         let e′ : isPrefix (standIn (p .actions) .log) L ≡ false = ap (λ (x : Log). isPrefix x L) (sym stands) ∙ e in
         let f′ : isPrefix L (standIn (p .actions) .log) ≡ false = ap (isPrefix L) (sym stands) ∙ f in
         let a = stands in
-        let st : standOf (record { bench = withParted (withGatheringOver (s .bench)); lent = s .lent }) ≡ record { log = standIn (p .actions) .log; parted = true } =
+        let st : standing (record { bench = withParted (withGatheringOver (s .bench)); lent = s .lent }) ≡ record { log = standIn (p .actions) .log; parted = true } =
         λ i. record { log = a i; parted = true } in
         let z : settle (standIn (p .actions)) (some L) ≡ record { log = standIn (p .actions) .log; parted = true } = rw (e′, f′) in
         rw (e, f) (record {

@@ -15,12 +15,12 @@ use Rattle.agreement.specs.Kept.{keptLog, keptProposal}
 use Rattle.agreement.specs.Heard.{heardLogs, ProposalHeard, heardProposals}
 use Rattle.agreement.specs.declared.Agreement.{Agreement}
 use Rattle.agreement.specs.declared.Proposals.{Proposals}
+use Rattle.bench.specs.Calls.{State}
 use Rattle.bench.specs.Layout.{logsPlace, proposalsPlace, leastLent, Lent}
 use Rattle.bench.specs.Calendar.{lastView, viewBeat, inputBeat, snapshotOneBeat, snapshotTwoBeat, closeBeat}
-use Rattle.bench.specs.Acts.{Stand}
 use Rattle.bench.specs.History.{ActRecord, History, heardAt, snapshotOf, standIn}
 use Rattle.bench.specs.Record.{agreementOf, proposalsOf, idle}
-use Rattle.bench.specs.ByRecord.{State, decidedLog}
+use Rattle.bench.specs.ByRecord.{standing}
 use Rattle.bench.specs.declared.Bench.{Bench}
 use Rattle.bench.proofs.Fine.{Fine}
 use Rattle.bench.proofs.GoodHistory.{GoodHistory}
@@ -62,10 +62,6 @@ abbrev pub lastOf : ℕ → Option ℕ
 lastOf zero = none
 lastOf (suc b) = some b
 
--- what record and lists say of the decided log and of the mark
-abbrev pub standOf : State → Stand
-standOf s = record { log = decidedLog s; parted = s .bench .parted }
-
 pub record Tie (n own : ℕ) (s : State) (p : History) : Type 0 where
   pub n-is : s .bench .n ≡ n
   pub own-is : s .bench .own ≡ own
@@ -74,7 +70,7 @@ pub record Tie (n own : ℕ) (s : State) (p : History) : Type 0 where
   pub last-is : lastOf (s .bench .next) ≡ p .last
   pub gathering-is : not (idle (s .bench)) ≡ p .gathering
   pub filled : Filled (s .bench) (s .lent) p
-  pub stand-is : standOf s ≡ standIn (p .actions)
+  pub stand-is : standing s ≡ standIn (p .actions)
   pub good : GoodHistory n p
 
 -- ---- nothing was done at a beat still to come

@@ -1,5 +1,5 @@
 -- What an act makes and decides, given what it sees of the agreement before (document 01, "Calendar of acts"). Both descriptions of a bench, by
--- its history and by its record, use these rules; they differ only in where an act sees what it sees. Assumes nothing.
+-- its history and by its record, use `makes` and `decides`; they differ in where an act sees what it sees. Assumes nothing.
 use Prim.Native.Nat.{ℕ}
 use mathlib.Core.Bool.{Bool, true, not, _&&_}
 use mathlib.Core.List.{List, [], _∷_, _++_}
@@ -11,7 +11,7 @@ use Rattle.message.specs.Choice.{pick}
 use Rattle.message.specs.Numbers.{put}
 use Rattle.message.specs.Logs.{Block, Log, isPrefix}
 use Rattle.message.specs.Message.{Meaning, logMessage, proposalMessage, bytesOf}
-use Rattle.bench.specs.Calendar.{lastView, Act, proposing, voting, deciding, looking}
+use Rattle.bench.specs.Calendar.{lastView, Act, proposing, voting, deciding, snapping}
 
 -- What an act of view v sees: the longest logs with grade 0, 1 and 2 of GA v-1, and which log to vote for, given the lock.
 pub record Seen : Type 0 where
@@ -49,7 +49,7 @@ unfoldable pub makes : ℕ → ℕ → Block → ℕ → Seen → Act → Option
 makes own v block priority seen proposing = inViews v (propose own v block priority (seen .candidate))
 makes own v block priority seen voting = inViews v (vote own v (seen .choose) (seen .lock))
 makes own v block priority seen deciding = none
-makes own v block priority seen looking = none
+makes own v block priority seen snapping = none
 
 -- A made message stands at the front of the outgoing buffer; the bytes past it keep their values.
 abbrev pub outAfter : Option Meaning → List ℕ → List ℕ
@@ -62,9 +62,9 @@ abbrev pub decides : Seen → Act → Option Log
 decides seen proposing = none
 decides seen voting = none
 decides seen deciding = seen .decision
-decides seen looking = none
+decides seen snapping = none
 
--- the standing decided log, and the mark *parted*: a decision was in conflict with it
+-- The standing decided log, and the mark *parted*: a decision was in conflict with it, which is a breach of safety.
 pub record Stand : Type 0 where
   pub log : Log
   pub parted : Bool

@@ -21,32 +21,28 @@ use Rattle.agreement.specs.Kept.{keptProposal}
 use Rattle.agreement.specs.Heard.{voteAmong}
 use Rattle.agreement.specs.declared.Agreement.{Agreement}
 use Rattle.agreement.specs.declared.Proposals.{Proposals}
-use Rattle.bench.specs.Layout.{logsPlace, proposalsPlace, decidedPlace, mostBytes, Lent, tooShort, outOfRange, Held}
-use Rattle.bench.specs.Calendar.{lastBeat, logsShut, proposalsShut, viewOf, placeIn, Act, proposing, voting, deciding, looking, actAt}
-use Rattle.bench.specs.Calls.{refused, done, took, acted, Opening, Step, openTo}
-use Rattle.bench.specs.Acts.{Seen, isView, makes, outAfter}
+use Rattle.bench.specs.Layout.{logsPlace, proposalsPlace, decidedPlace, mostBytes, Lent, shortLists, outOfRange}
+use Rattle.bench.specs.Calendar.{lastBeat, logsShut, proposalsShut, viewOf, placeIn, Act, proposing, voting, deciding, snapping, actAt}
+use Rattle.bench.specs.Calls.{refused, done, took, acted, State, Opening, Step, openTo}
+use Rattle.bench.specs.Acts.{Seen, isView, makes, decides, Stand, outAfter}
 use Rattle.bench.specs.Record.{freshBench, agreementOf, proposalsOf, beatOf, notAboveLast, idle, withAgreement, withProposals, withGatheringOver, withDecided, withParted, beyond}
 use Rattle.bench.specs.declared.Bench.{Bench}
 
--- a record and its lent lists
-abbrev pub State : Type 0
-State = Held Bench
-
 -- refused by k: nothing else changes
-abbrev pub refuse : State → List ℕ → ℕ → Step Bench
+abbrev pub refuse : State → List ℕ → ℕ → Step
 refuse s out k = record { held = s; answer = record { reply = refused k; out = out } }
 
 -- ---- Open
 
 -- The record beside a refusal is of no bench: its n is 0, and every call refuses it by 9.
-abbrev pub notOpened : ℕ → Opening Bench
+abbrev pub notOpened : ℕ → Opening
 notOpened k = record { reply = refused k; bench = freshBench 0 0 }
 
 -- 7, 8; the lists are not written
-unfoldable pub openOf : ℕ → ℕ → Lent → Opening Bench
+unfoldable pub openOf : ℕ → ℕ → Lent → Opening
 openOf n own l =
     pick (outOfRange n own) (notOpened 7)
-    (pick (tooShort l) (notOpened 8)
+    (pick (shortLists l) (notOpened 8)
     (record { reply = done; bench = freshBench n own }))
 
 -- ---- Begin
@@ -72,62 +68,62 @@ begunBench b beat = record {
   parted = b .parted;
 }
 
-abbrev pub begun : State → ℕ → Step Bench
+abbrev pub begun : State → ℕ → Step
 begun s beat = record { held = record { bench = begunBench (s .bench) beat; lent = s .lent }; answer = record { reply = done; out = [] } }
 
 -- 9, 8, 10, 20; the lists are not written
-unfoldable pub beginOf : State → ℕ → Step Bench
+unfoldable pub beginOf : State → ℕ → Step
 beginOf s beat =
     pick (beyond (s .bench)) (refuse s [] 9)
-    (pick (tooShort (s .lent)) (refuse s [] 8)
+    (pick (shortLists (s .lent)) (refuse s [] 8)
     (pick (ltb lastBeat beat) (refuse s [] 10)
     (pick (notAboveLast (s .bench) beat) (refuse s [] 20)
     (begun s beat))))
 
 -- ---- filing
 
--- the word, and what is held afterwards
-pub record Filed : Type 0 where
+-- what filing comes to: the word, and what is held afterwards
+pub record Outcome : Type 0 where
   pub word : Word
   pub held : State
 
-abbrev pub filedLog : State → ℕ → Filing → Filed
-filedLog s v f = record {
+abbrev pub logOutcome : State → ℕ → Filing → Outcome
+logOutcome s v f = record {
   word = f .word;
   held =
       record { bench = withAgreement (s .bench) v (f .agreement); lent = record { names = f .names; counts = f .counts } };
 }
 
-abbrev pub filedProposal : State → ProposalFiling → Filed
-filedProposal s f = record {
+abbrev pub proposalOutcome : State → ProposalFiling → Outcome
+proposalOutcome s f = record {
   word = f .word;
   held = record { bench = withProposals (s .bench) (f .proposals); lent = record { names = f .names; counts = f .counts } };
 }
 
 -- A message, with its bytes, in the agreement or among the proposals of its view: one rule for messages received and for one's own.
-unfoldable pub fileMessage : State → List ℕ → Meaning → Filed
+unfoldable pub fileMessage : State → List ℕ → Meaning → Outcome
 fileMessage s bytes (logMessage m) =
-    filedLog s (m .view)
+    logOutcome s (m .view)
     (fileOf (agreementOf (s .bench) (m .view)) (s .lent .names) (s .lent .counts) (logsPlace (m .view)) bytes (m .sender))
 fileMessage s bytes (proposalMessage m priority) =
-    filedProposal s
+    proposalOutcome s
     (fileProposalOf (proposalsOf (s .bench) (m .view)) (s .lent .names) (s .lent .counts) proposalsPlace bytes (m .sender) priority)
 
 -- ---- Receive
 
-abbrev pub taken : Filed → Step Bench
+abbrev pub taken : Outcome → Step
 taken f = record { held = f .held; answer = record { reply = took (f .word); out = [] } }
 
 -- 1 to 6, 21
-abbrev pub receives : State → List ℕ → Reading → Step Bench
+abbrev pub receives : State → List ℕ → Reading → Step
 receives s bytes (unread k) = refuse s [] k
 receives s bytes (means m) = pick (not (openTo m (beatOf (s .bench)))) (refuse s [] 21) (taken (fileMessage s bytes m))
 
 -- 9, 8, 22, 1 to 6, 21
-unfoldable pub receiveOf : State → List ℕ → Step Bench
+unfoldable pub receiveOf : State → List ℕ → Step
 receiveOf s bytes =
     pick (beyond (s .bench)) (refuse s [] 9)
-    (pick (tooShort (s .lent)) (refuse s [] 8)
+    (pick (shortLists (s .lent)) (refuse s [] 8)
     (pick (idle (s .bench)) (refuse s [] 22)
     (receives s bytes (readOf (s .bench .n) bytes))))
 
@@ -162,7 +158,12 @@ seenOf s v = record {
 abbrev pub decidedLog : State → Log
 decidedLog s = logAt (s .lent .names) (s .lent .counts) decidedPlace (s .bench .decided)
 
--- a decision: it extends the decided log and replaces it, is a prefix of it, or sets the mark
+-- what stands: that log, and the mark
+abbrev pub standing : State → Stand
+standing s = record { log = decidedLog s; parted = s .bench .parted }
+
+-- A decision does to record and lists what `settle` does to what stands (Settling: decision-settled): it extends the decided log and replaces it, is
+-- a prefix of it and changes nothing, or sets the mark.
 unfoldable pub settled : State → Option Log → State
 settled s none = s
 settled s (some L) =
@@ -182,20 +183,24 @@ unfoldable pub snappedTwo : ℕ → State → State
 snappedTwo v s =
     pick (isView v) (record { bench = withAgreement (s .bench) v (withTwo (agreementOf (s .bench) v)); lent = s .lent }) s
 
--- what an act changes besides filing what it makes: at 4v+2 it decides first, and then takes snapshot one
-unfoldable pub changed : State → ℕ → Act → State
-changed s v proposing = s
-changed s v voting = s
-changed s v deciding = snappedOne v (settled s (decisionOf s v))
-changed s v looking = snappedTwo v s
+abbrev pub snapped : ℕ → Act → State → State
+snapped v proposing s = s
+snapped v voting s = s
+snapped v deciding s = snappedOne v s
+snapped v snapping s = snappedTwo v s
 
--- what is made is filed from its bytes
+-- what an act changes besides filing what it makes: it decides first, and then takes its snapshot
+unfoldable pub changed : State → ℕ → Act → State
+changed s v a = snapped v a (settled s (decides (seenOf s v) a))
+
+-- What is made is filed from its bytes, and not judged by 1 to 6 again: names are used as they stand in the lists. Within the limits of 9 the bytes
+-- hold a log.
 abbrev pub withMade : State → Option Meaning → State
 withMade s none = s
 withMade s (some m) = fileMessage s (bytesOf m) m .held
 
 -- the act of a row of the calendar, in view v, once the gathering is over
-unfoldable pub actedOf : State → Block → ℕ → List ℕ → ℕ → Act → Step Bench
+unfoldable pub actedOf : State → Block → ℕ → List ℕ → ℕ → Act → Step
 actedOf s block priority out v a =
     let made : Option Meaning = makes (s .bench .own) v block priority (seenOf s v) a in
     record { held = withMade (changed s v a) made; answer = record { reply = acted made; out = outAfter made out } }
@@ -204,10 +209,10 @@ abbrev pub over : State → State
 over s = record { bench = withGatheringOver (s .bench); lent = s .lent }
 
 -- 9, 8, 11, 22
-unfoldable pub actOf : State → Block → ℕ → List ℕ → Step Bench
+unfoldable pub actOf : State → Block → ℕ → List ℕ → Step
 actOf s block priority out =
     pick (beyond (s .bench)) (refuse s out 9)
-    (pick (tooShort (s .lent)) (refuse s out 8)
+    (pick (shortLists (s .lent)) (refuse s out 8)
     (pick (ltb (length out) mostBytes) (refuse s out 11)
     (pick (idle (s .bench)) (refuse s out 22)
     (actedOf (over s) block priority out (viewOf (beatOf (s .bench))) (actAt (placeIn (beatOf (s .bench))))))))

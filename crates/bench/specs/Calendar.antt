@@ -1,5 +1,5 @@
--- The calendar (document 01, "Words", "Receive" and "Calendar of acts"): each beat of a view is named here and nowhere else. A beat is one bound
--- on the delay of a message, the field's Δ. Assumes nothing.
+-- The calendar (document 01, "Words", "Receive" and "Calendar of acts"): each beat of a view is named here, and in specs/ nowhere else. A beat
+-- is one bound on the delay of a message, the field's Δ; a view is a round. Assumes nothing.
 use Prim.Native.Nat.{ℕ, zero, suc, _+_, _*_, _/_, _%_}
 use mathlib.Core.Bool.{Bool, _&&_}
 use lib.Dec.{leb, ltb}
@@ -20,7 +20,7 @@ snapshotOneBeat v = 4 * v + 2
 abbrev pub snapshotTwoBeat : ℕ → ℕ
 snapshotTwoBeat v = 4 * v + 3
 
--- 4v+6: grade 2 of GA v is read, and its LOGs are taken no longer
+-- 4v+6: the last beat at which LOGs of view v are taken, and the one at which grade 2 of GA v is read
 abbrev pub closeBeat : ℕ → ℕ
 closeBeat v = 4 * v + 6
 
@@ -39,15 +39,15 @@ viewOf b = b / 4
 abbrev pub placeIn : ℕ → ℕ
 placeIn b = b % 4
 
--- The rows of the calendar of acts: proposing at 4v, voting at 4v+1, deciding (and snapshot one) at 4v+2, looking (snapshot two) at 4v+3.
+-- The rows of the calendar of acts: proposing at 4v, voting at 4v+1, deciding (and snapshot one) at 4v+2, snapping (snapshot two only) at 4v+3.
 pub data Act : Type 0 where
-  proposing voting deciding looking : Act
+  proposing voting deciding snapping : Act
 
 abbrev pub actAt : ℕ → Act
 actAt zero = proposing
 actAt (suc zero) = voting
 actAt (suc (suc zero)) = deciding
-actAt (suc (suc (suc r))) = looking
+actAt (suc (suc (suc r))) = snapping
 
 -- "LOGs of view v are taken at beats 4v+1 to 4v+6, PROPOSALs at 4v and 4v+1."
 abbrev pub logWindow : ℕ → ℕ → Bool

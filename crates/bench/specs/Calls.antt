@@ -9,7 +9,8 @@ use Rattle.message.specs.Logs.{Block}
 use Rattle.message.specs.Message.{Meaning, logMessage, proposalMessage}
 use Rattle.agreement.specs.Filing.{Word}
 use Rattle.bench.specs.Calendar.{logWindow, proposalWindow}
-use Rattle.bench.specs.Layout.{Lent, Held}
+use Rattle.bench.specs.Layout.{Lent}
+use Rattle.bench.specs.declared.Bench.{Bench}
 
 -- A beat; a message by its bytes, wherever they lay; an offered block (name zero for none), a priority and the outgoing buffer.
 pub data Call : Type 0 where
@@ -35,13 +36,18 @@ pub record Answer : Type 0 where
   pub reply : Reply
   pub out : List ℕ
 
--- What Open gives; what each other call leaves and answers.
-pub record Opening (B : Type 0) : Type 0 where
-  pub reply : Reply
-  pub bench : B
+-- What stands between two calls: the bench's record, and the lent lists.
+pub record State : Type 0 where
+  pub bench : Bench
+  pub lent : Lent
 
-pub record Step (B : Type 0) : Type 0 where
-  pub held : Held B
+-- What Open gives; what each other call leaves and answers.
+pub record Opening : Type 0 where
+  pub reply : Reply
+  pub bench : Bench
+
+pub record Step : Type 0 where
+  pub held : State
   pub answer : Answer
 
 -- 21: whether a message's view is open to its kind at a beat

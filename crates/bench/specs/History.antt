@@ -1,4 +1,4 @@
--- One bench by its history: what it is to answer, make and decide, worked out from its list of calls and from nothing else (document 01, the words
+-- One bench, the field's validator, by its history: what it is to answer, make and decide, worked out from its list of calls and from nothing else (document 01, the words
 -- on demand 3 after the calendar). Nothing is forgotten here; a view that is no longer open is read by no later act. Assumes nothing.
 use Prim.Native.Nat.{ℕ, zero, suc}
 use mathlib.Core.Bool.{Bool, true, false, not, _||_}
@@ -12,14 +12,14 @@ use Rattle.message.specs.Message.{Content, Meaning, logMessage, proposalMessage
 use Rattle.agreement.specs.Filing.{Word}
 use Rattle.agreement.specs.Kept.{wordOn, sameProposal}
 use Rattle.agreement.specs.Heard.{heardLogs, votersOf, gradeNow, gradeWith, ProposalHeard, heardProposals, voteAmong}
-use Rattle.bench.specs.Layout.{Lent, tooShort, outOfRange, mostBytes}
+use Rattle.bench.specs.Layout.{Lent, shortLists, outOfRange, mostBytes}
 use Rattle.bench.specs.Calendar.{lastBeat, snapshotOneBeat, snapshotTwoBeat, viewOf, placeIn, actAt}
 use Rattle.bench.specs.Calls.{Call, begin, receive, act, bufferIn, Reply, refused, done, took, acted, Answer, openTo}
 use Rattle.bench.specs.Acts.{Seen, makes, outAfter, decides, Stand, settle}
 
 -- ---- the history
 
--- An Act, not refused: its beat, the LOGs taken or made before it, what it made, and the log it had to decide.
+-- An Act, not refused: its beat, the LOGs taken or made before it, what it made, and the log it had to decide (even where that changes nothing).
 pub record ActRecord : Type 0 where
   pub beat : ℕ
   pub heard : List Content
@@ -28,7 +28,7 @@ pub record ActRecord : Type 0 where
 
 -- What the calls so far come to, the newest first in each list:
 --   last       the last begun beat
---   gathering  one is under way: "from a Begin to the next Begin or Act, refused ones skipped"
+--   gathering  one is under way: the time in which messages are taken, "from a Begin to the next Begin or Act, refused ones skipped"
 --   heard      the LOGs taken or made
 --   proposals  the PROPOSALs taken or made
 --   actions    the Acts
@@ -55,7 +55,7 @@ beatNow p = orZero (p .last)
 
 -- Open: 7, n or own number out of range; 8, a lent list too short
 unfoldable pub openRefusal : ℕ → ℕ → Lent → Option ℕ
-openRefusal n own l = pick (outOfRange n own) (some 7) (pick (tooShort l) (some 8) none)
+openRefusal n own l = pick (outOfRange n own) (some 7) (pick (shortLists l) (some 8) none)
 
 abbrev pub notAbove : ℕ → Option ℕ → Bool
 notAbove b none = false
@@ -224,15 +224,6 @@ actedAt (d ∷ ds) b = eqb (d .beat) b || actedAt ds b
 
 unfoldable pub awake : ℕ → ℕ → List Call → ℕ → Bool
 awake n own cs b = actedAt (after n own cs .actions) b
-
--- the logs decided, "even where this changes nothing"
-abbrev pub keepSome : Option Log → List Log → List Log
-keepSome none Ls = Ls
-keepSome (some L) Ls = L ∷ Ls
-
-unfoldable pub decidedIn : List ActRecord → List Log
-decidedIn [] = []
-decidedIn (d ∷ ds) = keepSome (d .decided) (decidedIn ds)
 
 -- what the decisions come to
 unfoldable pub standIn : List ActRecord → Stand

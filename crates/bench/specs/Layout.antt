@@ -1,4 +1,4 @@
--- Where logs stand in the two lent lists, and what is held between two calls (document 01, "Four calls"). Assumes nothing.
+-- Where logs stand in the two lent lists (document 01, "Four calls"), and the tests of what is handed to Open. Assumes nothing.
 use Prim.Native.Nat.{ℕ, _+_, _*_, _%_}
 use mathlib.Core.Bool.{Bool, _||_}
 use mathlib.Core.List.{List}
@@ -35,14 +35,9 @@ pub record Lent : Type 0 where
   pub counts : List ℕ
 
 -- 8: a lent list is too short
-abbrev pub tooShort : Lent → Bool
-tooShort l = ltb (length (l .names)) leastLent || ltb (length (l .counts)) leastLent
+abbrev pub shortLists : Lent → Bool
+shortLists l = ltb (length (l .names)) leastLent || ltb (length (l .counts)) leastLent
 
 -- 7 and 9: n is not 1 to 32, or the own number not below n
 abbrev pub outOfRange : ℕ → ℕ → Bool
 outOfRange n own = eqb n 0 || (ltb mostSenders n || leb n own)
-
--- what stands between two calls: the record, of whatever type, and the lent lists
-pub record Held (B : Type 0) : Type 0 where
-  pub bench : B
-  pub lent : Lent

@@ -17,7 +17,7 @@ use Rattle.bench.specs.Calendar.{viewBeat, closeBeat}
 use Rattle.bench.specs.Calls.{Call, begin, receive, act, openTo}
 use Rattle.bench.specs.History.{History, ActRecord, fresh, beatNow, refusal, file, wordFor, accepted, madeBy, step, after, afterFrom}
 use Rattle.bench.proofs.CallLaws.{receive-ok, taken-reply, took-injective, accepted-receive, recordOf}
-use Rattle.run.specs.Places.{Begins, MakesAfter, Sends, makes, passesOn, With}
+use Rattle.run.specs.Places.{Begins, MakesAfter, Sends, sendsMade, sendsOn, With}
 use Rattle.run.specs.Premises.{Volume, Delivery, Numbers, Majority, counted, breaker}
 use Rattle.run.proofs.ListTests.{all, all-use, any, any-use, allBelow, below-use, implies, implies-use}
 use Rattle.run.proofs.Starts.{after-append, after-ok}
@@ -81,11 +81,12 @@ at-beat p b m e = ap {B = SentLog} (λ (k : ℕ). record { beat = k; content = m
 
 sends-listed : (n own : ℕ) (cs : List Call) (b : ℕ) (m : Content) → Sends n own cs b m → Mem (record { beat = b; content = m }) (sentList n own fresh cs)
 unfolding sentBy sentRead sentMade after
-sends-listed n own cs b m (makes pre t) =
-    rw (t .place .1)
-    (sentBy-listed n own pre (act (t .block) (t .priority) (t .out)) (t .place .0) fresh (record { beat = b; content = m })
-    (rw (t .ok, t .made) (List·Memᴰ·head (at-beat (after n own pre) b m (t .beat)))))
-sends-listed n own cs b m (passesOn pre t f) =
+sends-listed n own cs b m (sendsMade pre t) =
+    let a = t .acts in
+    rw (a .place .1)
+    (sentBy-listed n own pre (act (a .block) (a .priority) (a .out)) (a .place .0) fresh (record { beat = b; content = m })
+    (rw (a .ok, t .made) (List·Memᴰ·head (at-beat (after n own pre) b m (a .beat)))))
+sends-listed n own cs b m (sendsOn pre t f) =
     let p = after n own pre in
     let q = taken-reply n own p (t .bytes) (logMessage m) (t .ok) (t .read) in
     let g : (wordFor p (logMessage m) ≡ first) ⊎ (wordFor p (logMessage m) ≡ second) =
@@ -144,7 +145,7 @@ heard-with n own pre m i o = elim (heard-from n own pre pre [] (sym (append-nil 
         gathering = r .gathering;
         inWindow = subst (λ (x : Meaning). openTo x (beatNow (after n own start)) ≡ true) f (r .inWindow);
       }
-  | made start c t u ↦ absurd (o (made-vote n own (after n own start) (t .block) (t .priority) m (t .made) .sender))
+  | made start c t u ↦ absurd (o (made-vote n own (after n own start) (t .acts .block) (t .acts .priority) m (t .made) .sender))
 ]
 
 pub delivered : (W : Volume) → deliveredb W ≡ true → Delivery W
@@ -161,7 +162,7 @@ delivered W e p q kp kq d b m s pre b′ a l gap u o =
     let x = implies-use _ _ (below-use n _ (below-use n _ e p (kp .0)) q (kq .0)) both in
     let y = all-use _ _ (all-use _ _ x (record { beat = b; content = m }) (sends-listed n p (W .calls p) b m s)) action i in
     let owed : (ltb b (beatNow now) && (leb (beatNow now) (closeBeat (m .view)) && not (eqb (m .sender) q))) ≡ true =
-    rw (beat-is now b′ (a .beat), lt-ltb b b′ l, le-leb b′ (closeBeat (m .view)) u, not-eqb (m .sender) q o) in
+    rw (beat-is now b′ (a .beat), lt-ltb b b′ l, le-leb b′ (closeBeat (m .view)) (omega arith), not-eqb (m .sender) q o) in
     heard-with n q pre m (among m (now .heard) (implies-use _ _ y owed)) o
 
 -- ---- numbers
@@ -189,9 +190,7 @@ act-made n own cs m e =
   where
     at-place : (d : ActRecord) → ActPlace n own cs d → madeIt m (d .made) ≡ true → (pre : List Call) × (b : ℕ) × MakesAfter n own cs pre b m
     at-place d x q =
-        let a = x .acts in
-        let w = sym (x .made) ∙ madeIt-eq m (d .made) q in
-        (x .pre, d .beat, record { block = a .block; priority = a .priority; out = a .out; place = a .place; ok = a .ok; beat = a .beat; made = w })
+        (x .pre, d .beat, record { acts = x .acts; made = sym (x .made) ∙ madeIt-eq m (d .made) q })
 
 unfoldable pub numberedb : Volume → Bool
 numberedb W =
@@ -240,4 +239,5 @@ majority W top e v i k b g l m =
     let x = and-eq-true-iff _ _ .0 e in
     let t = ltb-true (beatNow (after (W .n) i (W .calls i))) (viewBeat top) (implies-use _ _ (below-use (W .n) _ (x .0) i (k .0)) (k .1)) in
     let u = begun-upTo (W .n) i (W .calls i) b g in
-    ltb-true (count (W .n) (breaker W)) (count (W .n) (counted W v)) (below-use top _ (x .1) v (omega arith))
+    let c = ltb-true (count (W .n) (breaker W)) (count (W .n) (counted W v)) (below-use top _ (x .1) v (omega arith)) in
+    omega arith

@@ -9,7 +9,8 @@ use Rattle.agreement.specs.Kept.{wordOn}
 use Rattle.agreement.specs.Heard.{someDiffers, keptOf, logsFrom, gradeNow, gradeWith, proposalsFrom, voteAmong}
 use Rattle.agreement.specs.Proposals.{bestOf}
 use Rattle.bench.specs.Acts.{propose, vote, makes, settle}
-use Rattle.bench.specs.History.{refusal, wordFor, file, heardAt, candidateAt, lockAt, decisionAt, madeBy, decidedBy, accepted, acceptedAnswer, step, answer, afterFrom, after, answersFrom, answersTo, actedAt, awake, decidedIn, standIn, stand}
+use Rattle.bench.specs.History.{refusal, wordFor, file, heardAt, candidateAt, lockAt, decisionAt, madeBy, decidedBy, accepted, acceptedAnswer, step, answer, afterFrom, after, answersFrom, answersTo, actedAt, awake, standIn, stand}
+use Rattle.run.proofs.Decided.{decidedIn}
 use Rattle.run.proofs.ListTests.{all, any, allBelow}
 use Rattle.run.proofs.Checks.{sentRead, sentMade, sentBy, sentList, sameContent, madeIt, actMade, deliveredb, numberedb, majorityb}
 use Rattle.run.proofs.TypedChecks.{typedb, volumeTypedb}

@@ -10,11 +10,21 @@ use Rattle.message.proofs.TestLaws.{either}
 use Rattle.message.proofs.LogLaws.{prefix-refl, prefix-trans, prefix-length, isPrefix-iff}
 use Rattle.bench.specs.Calls.{Call, act}
 use Rattle.bench.specs.Acts.{Stand, settle}
-use Rattle.bench.specs.History.{ActRecord, after, keepSome, decidedIn, standIn, stand}
+use Rattle.bench.specs.History.{ActRecord, after, standIn, stand}
 use Rattle.bench.proofs.CallLaws.{recordOf}
 use Rattle.run.specs.Places.{Decides, LongestDecided}
 use Rattle.run.proofs.Beats.{act-recorded}
 use Rattle.run.proofs.ActPlaces.{act-place}
+
+-- ---- the logs decided, as a list
+
+abbrev keepSome : Option Log → List Log → List Log
+keepSome none Ls = Ls
+keepSome (some L) Ls = L ∷ Ls
+
+unfoldable pub decidedIn : List ActRecord → List Log
+decidedIn [] = []
+decidedIn (d ∷ ds) = keepSome (d .decided) (decidedIn ds)
 
 -- ---- the logs decided, by place and on record
 
@@ -49,12 +59,13 @@ mem-decided (x ∷ xs) L i = go (x .decided) refl i (mem-decided xs L)
 module _ (n own : ℕ) (cs : List Call) where
   pub decides-mem : (L : Log) → Decides n own cs L → Mem L (decidedIn (after n own cs .actions))
   decides-mem L d =
-      let c = act (d .block) (d .priority) (d .out) in
-      let a = recordOf n own (after n own (d .pre)) (d .block) (d .priority) in
-      let e : cs ≡ (d .pre ++ (c ∷ [])) ++ d .place .0 = d .place .1 ∙ sym (append-assoc (d .pre) (c ∷ []) (d .place .0)) in
+      let t = d .acts in
+      let c = act (t .block) (t .priority) (t .out) in
+      let a = recordOf n own (after n own (d .pre)) (t .block) (t .priority) in
+      let e : cs ≡ (d .pre ++ (c ∷ [])) ++ t .place .0 = t .place .1 ∙ sym (append-assoc (d .pre) (c ∷ []) (t .place .0)) in
       decided-mem (after n own cs .actions) a L
       (subst (λ (l : List Call). Mem a (after n own l .actions)) (sym e)
-      (act-recorded n own (d .pre) (d .place .0) (d .block) (d .priority) (d .out) (d .ok)))
+      (act-recorded n own (d .pre) (t .place .0) (t .block) (t .priority) (t .out) (t .ok)))
       (d .decided)
 
   pub mem-decides : (L : Log) → Mem L (decidedIn (after n own cs .actions)) → Decides n own cs L
@@ -63,28 +74,32 @@ module _ (n own : ℕ) (cs : List Call) where
       let y = act-place n own cs cs [] (sym (append-nil cs)) (x .0) (x .1) in
       record {
         pre = y .pre;
-        block = y .acts .block;
-        priority = y .acts .priority;
-        out = y .acts .out;
-        place = y .acts .place;
-        ok = y .acts .ok;
+        beat = x .0 .beat;
+        acts = y .acts;
         decided = sym (y .decided) ∙ x .2;
       }
 
 -- what is decided in a start of a list is decided in the list
 pub decides-start : (n own : ℕ) (pre post : List Call) (L : Log) → Decides n own pre L → Decides n own (pre ++ post) L
-decides-start n own pre post L d = record {
-  pre = d .pre;
-  block = d .block;
-  priority = d .priority;
-  out = d .out;
-  place = (
-    d .place .0 ++ post,
-    ap (λ (l : List Call). l ++ post) (d .place .1) ∙ append-assoc (d .pre) (act (d .block) (d .priority) (d .out) ∷ d .place .0) post,
-  );
-  ok = d .ok;
-  decided = d .decided;
-}
+decides-start n own pre post L d =
+    let a = d .acts in
+    record {
+      pre = d .pre;
+      beat = d .beat;
+      acts =
+          record {
+            block = a .block;
+            priority = a .priority;
+            out = a .out;
+            place = (
+              a .place .0 ++ post,
+              ap (λ (l : List Call). l ++ post) (a .place .1) ∙ append-assoc (d .pre) (act (a .block) (a .priority) (a .out) ∷ a .place .0) post,
+            );
+            ok = a .ok;
+            beat = a .beat;
+          };
+      decided = d .decided;
+    }
 
 -- ---- what stands where no two decided logs conflict
 
@@ -122,15 +137,15 @@ settle-good Ls st L agree g = either (isPrefix (st .log) L) extends stays
           among = inl (List·Memᴰ·tail m);
         })
 
-decision-good : (Ls : List Log) (st : Stand) (o : Option Log) → Agreeing (keepSome o Ls) → (Agreeing Ls → Good Ls st) → Good (keepSome o Ls) (settle st o)
+decided-more : (Ls : List Log) (st : Stand) (o : Option Log) → Agreeing (keepSome o Ls) → (Agreeing Ls → Good Ls st) → Good (keepSome o Ls) (settle st o)
 unfolding settle
-decision-good Ls st none agree below = below agree
-decision-good Ls st (some L) agree below = settle-good Ls st L agree (below (λ M K i j. agree M K (List·Memᴰ·tail i) (List·Memᴰ·tail j)))
+decided-more Ls st none agree below = below agree
+decided-more Ls st (some L) agree below = settle-good Ls st L agree (below (λ M K i j. agree M K (List·Memᴰ·tail i) (List·Memᴰ·tail j)))
 
 stand-good : (ds : List ActRecord) → Agreeing (decidedIn ds) → Good (decidedIn ds) (standIn ds)
 unfolding standIn decidedIn
 stand-good [] agree = record { unmarked = refl; above = λ L i. absurd (List·Memᴰ·not-nil i); among = inr (refl, refl) }
-stand-good (d ∷ ds) agree = decision-good (decidedIn ds) (standIn ds) (d .decided) agree (stand-good ds)
+stand-good (d ∷ ds) agree = decided-more (decidedIn ds) (standIn ds) (d .decided) agree (stand-good ds)
 
 -- Where no two logs decided in the list conflict, what stands is the longest of them, and there is no mark.
 pub stands-longest : (n own : ℕ) (cs : List Call) → ((L M : Log) → Decides n own cs L → Decides n own cs M → Compatible L M)

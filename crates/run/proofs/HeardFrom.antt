@@ -1,5 +1,5 @@
 -- Where a LOG that a bench has heard came from: taken in a gathering, or made as a vote; and that it is heard from then on. Assumes nothing.
-use Prim.Native.Nat.{ℕ, zero, suc, _/_, _%_, _≤_, _<_}
+use Prim.Native.Nat.{ℕ, zero, suc, _≤_, _<_}
 use native.Mathlib.Omega.{arith}
 use mathlib.Core.Path.{_≡_, refl, sym, ap, subst, _∙_}
 use mathlib.Core.Logic.{_⊎_, inl, inr}
@@ -12,7 +12,7 @@ use Rattle.message.specs.Logs.{Block, Log}
 use Rattle.message.specs.Message.{Content, Meaning, logMessage, proposalMessage, said, means}
 use Rattle.message.proofs.TestLaws.{either}
 use Rattle.agreement.specs.Heard.{heardProposals, voteAmong}
-use Rattle.bench.specs.Calendar.{lastView, inputBeat, actAt}
+use Rattle.bench.specs.Calendar.{lastView, inputBeat, actAt, viewOf, placeIn}
 use Rattle.bench.specs.Calls.{Call, begin, receive, act}
 use Rattle.bench.specs.Acts.{mayPropose, propose, vote, isView, inViews, makes}
 use Rattle.bench.specs.History.{History, beatNow, refusal, file, fileMade, closed, accepted, lockAt, candidateAt, seenAt, madeBy, decidedBy, after}
@@ -65,7 +65,7 @@ unfolding vote
 vote-shape own v choose none h e = absurd (Option·none-ne-some _ e)
 vote-shape own v choose (some M) h e = (M, refl, sym (same-log _ _ e))
 
-makes-vote : (n own : ℕ) (p : History) (block : Block) (priority v r : ℕ) (h : Content) → beatNow p / 4 ≡ v → beatNow p % 4 ≡ r
+makes-vote : (n own : ℕ) (p : History) (block : Block) (priority v r : ℕ) (h : Content) → viewOf (beatNow p) ≡ v → placeIn (beatNow p) ≡ r
     → makes own v block priority (seenAt n p v) (actAt r) ≡ some (logMessage h) → Vote n own p h
 unfolding makes
 makes-vote n own p block priority v zero h ev er e =
@@ -88,7 +88,7 @@ makes-vote n own p block priority v (suc (suc (suc r))) h ev er e = absurd (Opti
 
 pub made-vote : (n own : ℕ) (p : History) (block : Block) (priority : ℕ) (h : Content) → madeBy n own p block priority ≡ some (logMessage h) → Vote n own p h
 unfolding madeBy
-made-vote n own p block priority h e = makes-vote n own p block priority (beatNow p / 4) (beatNow p % 4) h refl refl e
+made-vote n own p block priority h e = makes-vote n own p block priority (viewOf (beatNow p)) (placeIn (beatNow p)) h refl refl e
 
 -- ---- where a LOG that is heard came from
 
@@ -154,7 +154,7 @@ module _ (n own : ℕ) (cs : List Call) where
       go (inl e) =
           let b = has-beat n own pre (act-ok n p x r o ok .1) in
           made pre (b .0)
-          (record { block = x; priority = r; out = o; place = at; ok = ok; beat = b .1; made = e })
+          (record { acts = record { block = x; priority = r; out = o; place = at; ok = ok; beat = b .1 }; made = e })
           (below-act n own p (b .0) x r o ok (upTo-now p (b .0) (b .1)))
 
   -- Every LOG heard after a start of the list was taken or made in it.
@@ -188,26 +188,26 @@ module _ (n own : ℕ) (cs : List Call) where
   pub made-heard-later : (pre : List Call) (b : ℕ) (h : Content) → MakesAfter n own cs pre b h → (pre′ : List Call) (b′ : ℕ) → ActsAfter n own cs pre′ b′ → b < b′
       → Mem h (after n own pre′ .heard)
   unfolding file
-  made-heard-later pre b h t pre′ b′ a l = go (ordered cs pre _ pre′ _ (t .place) (a .place))
+  made-heard-later pre b h t pre′ b′ a l = go (ordered cs pre _ pre′ _ (t .acts .place) (a .place))
     where
       p : History
       p = after n own pre
 
-      new : Mem h (after n own (pre ++ (act (t .block) (t .priority) (t .out) ∷ [])) .heard)
+      new : Mem h (after n own (pre ++ (act (t .acts .block) (t .acts .priority) (t .acts .out) ∷ [])) .heard)
       new =
           subst (λ (q : History). Mem h (q .heard))
           (sym
-          (after-ok n own pre (act (t .block) (t .priority) (t .out)) (t .ok)
-          ∙ accepted-act n own p (t .block) (t .priority) (t .out)
-          ∙ ap (fileMade (closed p (madeBy n own p (t .block) (t .priority)) (decidedBy n p))) (t .made)))
+          (after-ok n own pre (act (t .acts .block) (t .acts .priority) (t .acts .out)) (t .acts .ok)
+          ∙ accepted-act n own p (t .acts .block) (t .acts .priority) (t .acts .out)
+          ∙ ap (fileMade (closed p (madeBy n own p (t .acts .block) (t .acts .priority)) (decidedBy n p))) (t .made)))
           (List·Memᴰ·head refl)
 
-      go : Order pre (act (t .block) (t .priority) (t .out)) pre′ (act (a .block) (a .priority) (a .out)) → Mem h (after n own pre′ .heard)
+      go : Order pre (act (t .acts .block) (t .acts .priority) (t .acts .out)) pre′ (act (a .block) (a .priority) (a .out)) → Mem h (after n own pre′ .heard)
       go (same e f) =
-          let k : b ≡ b′ = Option·some-injective _ _ (sym (t .beat) ∙ ap (λ (x : List Call). after n own x .last) e ∙ a .beat) in
+          let k : b ≡ b′ = Option·some-injective _ _ (sym (t .acts .beat) ∙ ap (λ (x : List Call). after n own x .last) e ∙ a .beat) in
           absurd (omega arith)
-      go (before mid e) = rw e (heard-grow n own (pre ++ (act (t .block) (t .priority) (t .out) ∷ [])) mid h new)
+      go (before mid e) = rw e (heard-grow n own (pre ++ (act (t .acts .block) (t .acts .priority) (t .acts .out) ∷ [])) mid h new)
       go (behind mid e) =
-          let g = act-ok n p (t .block) (t .priority) (t .out) (t .ok) .1 in
-          let k : b′ < b = later n own cs pre′ b′ a mid b (rw e at g) (rw e at (t .beat)) in
+          let g = act-ok n p (t .acts .block) (t .acts .priority) (t .acts .out) (t .acts .ok) .1 in
+          let k : b′ < b = later n own cs pre′ b′ a mid b (rw e at g) (rw e at (t .acts .beat)) in
           absurd (omega arith)

@@ -1,4 +1,5 @@
 -- A volume that meets the premises on delivery and numbers is a Hearing: what its rule-keepers hear of each other's LOGs. Assumes nothing.
+use Rattle.agreement.proofs.GradeSources.{logBy}
 use Prim.Native.Nat.{ℕ, zero, suc, _+_, _-_, _≤_, _<_}
 use native.Mathlib.Omega.{arith}
 use native.Mathlib.Decide.{ℕ-discrete}
@@ -13,11 +14,11 @@ use Rattle.message.specs.Logs.{Log}
 use Rattle.message.specs.Message.{Content}
 use Rattle.agreement.specs.Kept.{heardOf}
 use Rattle.agreement.specs.Heard.{heardLogs, votersOf, onlyLog}
-use Rattle.agreement.proofs.SenderLaws.{logBy, heard-S, S-some, V-only, V-some, S-cases}
+use Rattle.agreement.proofs.SenderLaws.{heard-S, S-some, V-only, V-some, S-cases}
 use Rattle.bench.specs.Calendar.{closeBeat}
 use Rattle.bench.specs.Calls.{Call}
 use Rattle.bench.specs.History.{after, awake, heardAt}
-use Rattle.run.specs.Places.{ActsAfter, Sends, makes, passesOn}
+use Rattle.run.specs.Places.{ActsAfter, Sends, sendsMade, sendsOn}
 use Rattle.run.specs.Premises.{Volume, Keeps, Delivery, Numbers}
 use Rattle.run.proofs.Hearing.{Hearing, Twice}
 use Rattle.run.proofs.Beats.{upTo-le, beat-is}
@@ -179,18 +180,18 @@ module _ (W : Volume) where
 
   pub kept : (r b c k x : ℕ) (L : Log) → SentW r b k x L → b < c → TookW r c k x L
   kept r b c k x L s l = let m = s .le in elim (s .sends) [
-    | makes pre t ↦ tookMade pre (s .beat) t (omega arith)
-    | passesOn pre t f ↦ tookTaken pre (s .beat) t (omega arith)
+    | sendsMade pre t ↦ tookMade pre (s .beat) t (omega arith)
+    | sendsOn pre t f ↦ tookTaken pre (s .beat) t (omega arith)
   ]
 
   -- a LOG that its maker is sent back, it made before
   own-made : Numbers W → (r s b k : ℕ) (L : Log) → Keeps W r → Keeps W s → (r ≡ s → ⊥) → Sends (W .n) r (W .calls r) b (logBy s k L)
       → (c : ℕ) → b < c → TookW s c k s L
-  own-made N r s b k L kr ks d (makes pre t) c l = absurd (d (sym (made-vote (W .n) r _ (t .block) (t .priority) _ (t .made) .sender)))
-  own-made N r s b k L kr ks d (passesOn pre t f) c l =
+  own-made N r s b k L kr ks d (sendsMade pre t) c l = absurd (d (sym (made-vote (W .n) r _ (t .acts .block) (t .acts .priority) _ (t .made) .sender)))
+  own-made N r s b k L kr ks d (sendsOn pre t f) c l =
       let y = N s r ks kr pre b (logBy s k L) t refl in
-      let v = made-vote (W .n) s _ (y .2 .block) (y .2 .priority) _ (y .2 .made) .beat in
-      let e = beat-is (after (W .n) s (y .0)) (y .1) (y .2 .beat) in
+      let v = made-vote (W .n) s _ (y .2 .acts .block) (y .2 .acts .priority) _ (y .2 .made) .beat in
+      let e = beat-is (after (W .n) s (y .0)) (y .1) (y .2 .acts .beat) in
       let w = taken-window (W .n) r (W .calls r) pre b (logBy s k L) t .0 in
       tookMade (y .0) (y .1) (y .2) (omega arith)
 

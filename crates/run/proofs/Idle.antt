@@ -11,14 +11,14 @@ use Rattle.message.specs.Logs.{Log, Conflict, isPrefix}
 use Rattle.message.proofs.LogLaws.{isPrefix-iff, no-conflict-iff}
 use Rattle.agreement.specs.Limits.{mostSenders}
 use Rattle.bench.specs.Calls.{Call, begin, AllTyped}
-use Rattle.bench.specs.History.{after, decidedIn}
+use Rattle.bench.specs.History.{after}
 use Rattle.run.specs.Places.{Decides}
 use Rattle.run.specs.Premises.{Volume, Keeps, Delivery, Numbers, Majority}
 use Rattle.run.proofs.Checks.{delivered, numbered, majority}
 use Rattle.run.proofs.TypedChecks.{volumeTypedb, volume-typed}
 use Rattle.run.proofs.Computed.{computed}
 use Rattle.run.proofs.Votes.{no-conflict}
-use Rattle.run.proofs.Decided.{mem-decides}
+use Rattle.run.proofs.Decided.{decidedIn, mem-decides}
 use Rattle.run.proofs.Witness.{five, seven, offers, acts, log}
 
 -- Two rule-keepers, or one, decided two logs that conflict, in calls that there can be.

@@ -15,7 +15,7 @@ use Rattle.bench.specs.Calls.{Call, receive, act, Typed, AllTyped}
 use Rattle.bench.specs.History.{History, beatNow, refusal, after}
 use Rattle.bench.proofs.CallLaws.{receive-refusal}
 use Rattle.bench.proofs.GoodHistory.{after-good, made-good}
-use Rattle.run.specs.Places.{At, MakesAfter, Sends, makes, passesOn}
+use Rattle.run.specs.Places.{At, Sends, sendsMade, sendsOn}
 
 typed-parts : (pre : List Call) (c : Call) (post : List Call) → AllTyped (pre ++ (c ∷ post)) → AllTyped pre × Typed c
 typed-parts [] c post t = (tt, t .0)
@@ -26,19 +26,17 @@ module _ (n own : ℕ) (cs : List Call) (lo : own < n) (t : AllTyped cs) where
   typed-at pre c at = typed-parts pre c (at .0) (subst AllTyped (at .1) t)
 
   sent-writable : (b : ℕ) (m : Content) → Sends n own cs b m → Writable n m
-  sent-writable b m (makes pre x) =
-      let y = typed-at pre (act (x .block) (x .priority) (x .out)) (x .place) in
+  sent-writable b m (sendsMade pre x) =
+      let a = x .acts in
+      let y = typed-at pre (act (a .block) (a .priority) (a .out)) (a .place) in
       let c = y .1 in
-      made-good n own (x .block) (x .priority) lo (c .0) (c .1) (c .2) (after n own pre) (after-good n own pre lo (y .0)) (logMessage m) (x .made)
-  sent-writable b m (passesOn pre x f) =
+      made-good n own (a .block) (a .priority) lo (c .0) (c .1) (c .2) (after n own pre) (after-good n own pre lo (y .0)) (logMessage m) (x .made)
+  sent-writable b m (sendsOn pre x f) =
       read-writable n (x .bytes) (logMessage m) (typed-at pre (receive (x .bytes)) (x .place) .1 .0) (x .read)
 
   -- Every LOG that a bench makes or passes on is read back from its bytes by every bench of the volume.
   pub sent-readable : (b : ℕ) (m : Content) → Sends n own cs b m → readOf n (bytesOf (logMessage m)) ≡ means (logMessage m)
   sent-readable b m s = read-written n (logMessage m) (sent-writable b m s)
-
-  pub made-readable : (pre : List Call) (b : ℕ) (m : Content) → MakesAfter n own cs pre b m → readOf n (bytesOf (logMessage m)) ≡ means (logMessage m)
-  made-readable pre b m x = sent-readable b m (makes pre x)
 
   -- Its bytes may be handed to Receive, and in a gathering with its view open they are taken, whatever went before.
   pub sent-typed : (b : ℕ) (m : Content) → n ≤ mostSenders → Sends n own cs b m → Typed (receive (bytesOf (logMessage m)))

@@ -6,29 +6,17 @@ use mathlib.Core.Option.{some}
 use mathlib.Core.Bool.{false}
 use Rattle.message.specs.Logs.{Log}
 use Rattle.message.proofs.LogLaws.{no-conflict-iff}
-use Rattle.bench.specs.Layout.{Held}
-use Rattle.bench.specs.Calls.{Call, begin, Typed, AllTyped}
+use Rattle.bench.specs.Calls.{Call, begin, State, Typed, AllTyped}
 use Rattle.bench.specs.Acts.{Stand}
 use Rattle.bench.specs.History.{History, fresh, refusal, step, answer, answersFrom, answersTo, afterFrom, after, standIn, stand}
+use Rattle.bench.specs.ByRecord.{standing}
 use Rattle.run.specs.Places.{Decides, LongestDecided}
 use Rattle.run.specs.Premises.{Volume, Keeps, Delivery, Numbers, Majority}
-use Rattle.run.specs.Demand.{Way, Machine, call, standing, Event, callsIn, runs, answers, OpenedAs, OpensRightly, Claim, Demand3}
+use Rattle.run.specs.Demand.{Way, Machine, call, Event, callsIn, runs, answers, OpenedAs, OpensRightly, Faithful, Claim, Demand3}
 use Rattle.run.proofs.Votes.{no-conflict}
 use Rattle.run.proofs.Decided.{decides-start, stands-longest}
 
 -- ---- agreement follows from what each bench does alone
-
--- Demand 3 but for agreement.
-pub record Faithful (M : Machine) : Type 0 where
-  pub opens : OpensRightly M
-  pub answered : (n own : ℕ) (x : Held (M .Bench)) (es : List Event) → OpenedAs M n own x → AllTyped (callsIn es)
-      → answers M x es ≡ answersTo n own (callsIn es)
-  pub stood : (n own : ℕ) (x : Held (M .Bench)) (es : List Event) → OpenedAs M n own x → AllTyped (callsIn es)
-      → standing M (runs M x es) ≡ stand n own (callsIn es)
-  pub refusals : (n own : ℕ) (x : Held (M .Bench)) (es : List Event) (w : Way) (c : Call) (k : ℕ) → OpenedAs M n own x → AllTyped (callsIn es) → Typed c
-      → refusal n (after n own (callsIn es)) c ≡ some k → call M w (runs M x es) c .held ≡ runs M x es
-  pub begins : (n own : ℕ) (x : Held (M .Bench)) (es : List Event) (w : Way) (b : ℕ) → OpenedAs M n own x → AllTyped (callsIn es) → Typed (begin b)
-      → call M w (runs M x es) (begin b) .held .lent ≡ runs M x es .lent
 
 typed-start : (pre post : List Call) → AllTyped (pre ++ post) → AllTyped pre
 typed-start [] post t = tt
@@ -39,7 +27,7 @@ unfolding callsIn
 callsIn-append [] post = refl
 callsIn-append (e ∷ es) post = ap (λ (l : List Call). e .what ∷ l) (callsIn-append es post)
 
-agreement : (M : Machine) → Faithful M → (W : Volume) (from : ℕ → Held (M .Bench)) (events : ℕ → List Event)
+agreement : (M : Machine) → Faithful M → (W : Volume) (from : ℕ → State) (events : ℕ → List Event)
     → ((i : ℕ) → Keeps W i → OpenedAs M (W .n) i (from i))
     → ((i : ℕ) → Keeps W i → callsIn (events i) ≡ W .calls i)
     → ((i : ℕ) → Keeps W i → AllTyped (W .calls i))
@@ -66,30 +54,23 @@ agreement M F W from events given made typed D N J = record {
         stands-longest (W .n) i (callsIn pre) (λ L K d f. no-conflict W D N J i i k k L K (whole i k pre post e L d) (whole i k pre post e K f))
 
 pub demand3 : (M : Machine) → Faithful M → Demand3 M
-demand3 M F = record {
-  opens = F .opens;
-  answered = F .answered;
-  stood = F .stood;
-  refusals = F .refusals;
-  begins = F .begins;
-  agrees = agreement M F;
-}
+demand3 M F = record { alone = F; agrees = agreement M F }
 
 -- ---- from one call at a time
 
 -- A relation between what is held and the history, which Open brings about and every call keeps, answers included.
 pub record Simulation (M : Machine) : Type 1 where
   pub rightly : OpensRightly M
-  pub Rel : ℕ → ℕ → Held (M .Bench) → History → Type 0
-  pub opens : (n own : ℕ) (x : Held (M .Bench)) → OpenedAs M n own x → Rel n own x fresh
-  pub same-answer : (n own : ℕ) (w : Way) (x : Held (M .Bench)) (p : History) (c : Call) → Rel n own x p → Typed c → call M w x c .answer ≡ answer n own p c
-  pub keeps : (n own : ℕ) (w : Way) (x : Held (M .Bench)) (p : History) (c : Call) → Rel n own x p → Typed c → Rel n own (call M w x c .held) (step n own p c)
-  pub same-standing : (n own : ℕ) (x : Held (M .Bench)) (p : History) → Rel n own x p → standing M x ≡ standIn (p .actions)
-  pub refusals : (n own : ℕ) (w : Way) (x : Held (M .Bench)) (p : History) (c : Call) (k : ℕ) → Rel n own x p → Typed c → refusal n p c ≡ some k → call M w x c .held ≡ x
-  pub begins : (n own : ℕ) (w : Way) (x : Held (M .Bench)) (p : History) (b : ℕ) → Rel n own x p → Typed (begin b) → call M w x (begin b) .held .lent ≡ x .lent
+  pub Rel : ℕ → ℕ → State → History → Type 0
+  pub opens : (n own : ℕ) (x : State) → OpenedAs M n own x → Rel n own x fresh
+  pub same-answer : (n own : ℕ) (w : Way) (x : State) (p : History) (c : Call) → Rel n own x p → Typed c → call M w x c .answer ≡ answer n own p c
+  pub keeps : (n own : ℕ) (w : Way) (x : State) (p : History) (c : Call) → Rel n own x p → Typed c → Rel n own (call M w x c .held) (step n own p c)
+  pub same-standing : (n own : ℕ) (x : State) (p : History) → Rel n own x p → standing x ≡ standIn (p .actions)
+  pub refusals : (n own : ℕ) (w : Way) (x : State) (p : History) (c : Call) (k : ℕ) → Rel n own x p → Typed c → refusal n p c ≡ some k → call M w x c .held ≡ x
+  pub begins : (n own : ℕ) (w : Way) (x : State) (p : History) (b : ℕ) → Rel n own x p → Typed (begin b) → call M w x (begin b) .held .lent ≡ x .lent
 
 module _ (M : Machine) (S : Simulation M) (n own : ℕ) where
-  sim-answers : (es : List Event) (x : Held (M .Bench)) (p : History) → S .Rel n own x p → AllTyped (callsIn es) → answers M x es ≡ answersFrom n own p (callsIn es)
+  sim-answers : (es : List Event) (x : State) (p : History) → S .Rel n own x p → AllTyped (callsIn es) → answers M x es ≡ answersFrom n own p (callsIn es)
   unfolding answers answersFrom callsIn
   sim-answers [] x p r t = refl
   sim-answers (e ∷ es) x p r t =
@@ -97,14 +78,14 @@ module _ (M : Machine) (S : Simulation M) (n own : ℕ) where
       let b = sim-answers es (call M (e .way) x (e .what) .held) (step n own p (e .what)) (S .keeps n own (e .way) x p (e .what) r (t .0)) (t .1) in
       λ i. a i ∷ b i
 
-  sim-runs : (es : List Event) (x : Held (M .Bench)) (p : History) → S .Rel n own x p → AllTyped (callsIn es) → S .Rel n own (runs M x es) (afterFrom n own p (callsIn es))
+  sim-runs : (es : List Event) (x : State) (p : History) → S .Rel n own x p → AllTyped (callsIn es) → S .Rel n own (runs M x es) (afterFrom n own p (callsIn es))
   unfolding runs afterFrom callsIn
   sim-runs [] x p r t = r
   sim-runs (e ∷ es) x p r t =
       sim-runs es (call M (e .way) x (e .what) .held) (step n own p (e .what)) (S .keeps n own (e .way) x p (e .what) r (t .0)) (t .1)
 
   -- the relation holds all along
-  sim-all : (es : List Event) (x : Held (M .Bench)) → OpenedAs M n own x → AllTyped (callsIn es) → S .Rel n own (runs M x es) (after n own (callsIn es))
+  sim-all : (es : List Event) (x : State) → OpenedAs M n own x → AllTyped (callsIn es) → S .Rel n own (runs M x es) (after n own (callsIn es))
   unfolding after
   sim-all es x o t = sim-runs es x fresh (S .opens n own x o) t
 

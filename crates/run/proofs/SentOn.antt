@@ -1,4 +1,5 @@
 -- Which LOGs heard a bench has made or passed on: of each sender in a view its one log, or two that differ. Assumes nothing.
+use Rattle.agreement.proofs.GradeSources.{logBy}
 use Prim.Native.Nat.{ℕ}
 use mathlib.Core.Path.{_≡_, refl, sym, ap, subst, _∙_}
 use mathlib.Core.Logic.{_⊎_, inl, inr}
@@ -13,11 +14,11 @@ use Rattle.message.specs.Message.{Content, Meaning, logMessage, proposalMessage
 use Rattle.agreement.specs.Filing.{first, second}
 use Rattle.agreement.specs.Kept.{wordOn}
 use Rattle.agreement.specs.Heard.{logsFrom, heardLogs}
-use Rattle.agreement.proofs.SenderLaws.{logBy, Status, no-log, status-add, status-map}
+use Rattle.agreement.proofs.SenderLaws.{Status, no-log, status-add, status-map}
 use Rattle.bench.specs.Calls.{Call, begin, receive, act, took}
 use Rattle.bench.specs.History.{History, refusal, file, fileMade, closed, accepted, madeBy, decidedBy, after, wordFor}
 use Rattle.bench.proofs.CallLaws.{act-ok, receive-ok, taken-reply, accepted-receive, accepted-act}
-use Rattle.run.specs.Places.{At, MakesAfter, TakesAfter, PassedOn, Sends, makes, passesOn}
+use Rattle.run.specs.Places.{At, MakesAfter, TakesAfter, PassedOn, Sends, sendsMade, sendsOn}
 use Rattle.run.proofs.Starts.{along}
 use Rattle.run.proofs.Beats.{UpTo, upTo-now, upTo-step, has-beat}
 
@@ -99,7 +100,7 @@ module _ (n own : ℕ) (cs : List Call) (v s : ℕ) where
           let t : TakesAfter n own cs pre (b .0) h = record { bytes = bytes; place = at; ok = ok; beat = b .1; read = e } in
           sound-more p (receive bytes) ok g h (heardIs (logMessage h) e) (λ w. record {
             beat = b .0;
-            sends = passesOn pre t (answered h e w);
+            sends = sendsOn pre t (answered h e w);
             upTo = upTo-step n own p (b .0) (receive bytes) ok (upTo-now p (b .0) (b .1));
           })
 
@@ -120,10 +121,10 @@ module _ (n own : ℕ) (cs : List Call) (v s : ℕ) where
       go (some (proposalMessage h k)) e = sound-same p (act x r o) ok g (heardIs (some (proposalMessage h k)) e)
       go (some (logMessage h)) e =
           let b = has-beat n own pre (act-ok n p x r o ok .1) in
-          let t : MakesAfter n own cs pre (b .0) h = record { block = x; priority = r; out = o; place = at; ok = ok; beat = b .1; made = e } in
+          let t : MakesAfter n own cs pre (b .0) h = record { acts = record { block = x; priority = r; out = o; place = at; ok = ok; beat = b .1 }; made = e } in
           sound-more p (act x r o) ok g h (heardIs (some (logMessage h)) e) (λ w. record {
             beat = b .0;
-            sends = makes pre t;
+            sends = sendsMade pre t;
             upTo = upTo-step n own p (b .0) (act x r o) ok (upTo-now p (b .0) (b .1));
           })
 

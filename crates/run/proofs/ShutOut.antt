@@ -10,12 +10,13 @@ use Rattle.message.specs.Numbers.{AllBelow, part}
 use Rattle.message.specs.Logs.{Log, inStep}
 use Rattle.message.specs.Store.{logAt}
 use Rattle.agreement.specs.Limits.{mostSenders}
-use Rattle.bench.specs.Layout.{Lent, Held, leastLent, decidedPlace}
+use Rattle.bench.specs.Layout.{Lent, leastLent, decidedPlace}
 use Rattle.bench.specs.Calendar.{lastBeat}
-use Rattle.bench.specs.Calls.{Call, begin, Reply, done, Answer, AllTyped, TypedOpen}
+use Rattle.bench.specs.Calls.{Call, begin, Reply, done, Answer, AllTyped, TypedOpen, State}
 use Rattle.bench.specs.Acts.{Stand}
 use Rattle.bench.specs.History.{fresh, openRefusal, refusal, answer, acceptedAnswer, answersFrom, answersTo, stand}
-use Rattle.run.specs.Demand.{Way, byValue, Machine, call, standing, OpenedAs, Event, callsIn, runs, answers, Demand3}
+use Rattle.bench.specs.ByRecord.{standing}
+use Rattle.run.specs.Demand.{Way, byValue, Machine, call, OpenedAs, Event, callsIn, runs, answers, Demand3}
 use Rattle.run.proofs.Witness.{fiveSix, bench0, keep0, unmarked, stands, typed}
 
 -- ---- by the history
@@ -82,29 +83,28 @@ module _ (M : Machine) (D : Demand3 M) where
       → leastLent ≤ length (l .names) → leastLent ≤ length (l .counts)
       → OpenedAs M n own (record { bench = M .open′ n own l .bench; lent = l })
   opens-benches n own l t a b c d e =
-      let r = D .opens .opens n own l t (opens-unrefused n own l a b c d e) .0 in
+      let r = D .alone .opens .opens n own l t (opens-unrefused n own l a b c d e) .0 in
       record { typed = t; given = λ i. record { reply = r i; bench = M .open′ n own l .bench } }
 
   -- Not one that refuses to begin: a fresh bench begins every beat up to the last.
-  pub begins-any : (n own : ℕ) (x : Held (M .Bench)) (w : Way) (b : ℕ) → OpenedAs M n own x → b ≤ lastBeat
+  pub begins-any : (n own : ℕ) (x : State) (w : Way) (b : ℕ) → OpenedAs M n own x → b ≤ lastBeat
       → call M w x (begin b) .answer .reply ≡ done
   unfolding answers answersTo answersFrom callsIn
   begins-any n own x w b o l =
-      ap firstReply (D .answered n own x (record { way = w; what = begin b } ∷ []) o (omega arith, tt)) ∙ begin-fresh n own b l
+      ap firstReply (D .alone .answered n own x (record { way = w; what = begin b } ∷ []) o (omega arith, tt)) ∙ begin-fresh n own b l
 
   -- Not one that never decides, votes the empty log only, forgets after view 0 or invents a count: whoever goes through bench 0's calls of the
   -- witness, by value or on a lent record, ends with [5,6], of 3 and 0 entries, standing at its place in the lent lists, and no mark.
-  pub decides-both : (x : Held (M .Bench)) (es : List Event) → OpenedAs M 4 0 x → callsIn es ≡ bench0
-      → standing M (runs M x es) ≡ unmarked fiveSix
-  decides-both x es o e = D .stood 4 0 x es o (subst AllTyped (sym e) (typed 0 keep0)) ∙ ap (stand 4 0) e ∙ stands .0
+  pub decides-both : (x : State) (es : List Event) → OpenedAs M 4 0 x → callsIn es ≡ bench0
+      → standing (runs M x es) ≡ unmarked fiveSix
+  decides-both x es o e = D .alone .stood 4 0 x es o (subst AllTyped (sym e) (typed 0 keep0)) ∙ ap (stand 4 0) e ∙ stands .0
 
   -- Not one that leaves its lists untouched: where no 5 stood at that place when it was opened, the lists it ends with are not those.
-  pub lists-written : (x : Held (M .Bench)) (es : List Event) → OpenedAs M 4 0 x → callsIn es ≡ bench0
+  pub lists-written : (x : State) (es : List Event) → OpenedAs M 4 0 x → callsIn es ≡ bench0
       → (getD (x .lent .names) decidedPlace 0 ≡ 5 → ⊥) → runs M x es .lent ≡ x .lent → ⊥
-  unfolding standing
   lists-written x es o e free same =
       let y = runs M x es in
-      let f : nameFirst (logAt (y .lent .names) (y .lent .counts) decidedPlace (M .decidedLength (y .bench))) ≡ 5 =
+      let f : nameFirst (logAt (y .lent .names) (y .lent .counts) decidedPlace (y .bench .decided)) ≡ 5 =
       ap (λ (st : Stand). nameFirst (st .log)) (decides-both x es o e) in
       free (ap (λ (l : Lent). getD (l .names) decidedPlace 0) (sym same) ∙ first-name (y .lent .names) (y .lent .counts) decidedPlace _ 5 (omega arith) f)
 

@@ -5,8 +5,8 @@ use mathlib.Core.Bool.{true, false}
 use mathlib.Core.Option.{some, none, Option·none-ne-some, Option·some-injective}
 use mathlib.Core.Path.{_≡_, refl, sym, ap, subst}
 use Rattle.message.proofs.TestLaws.{either}
-use Rattle.bench.specs.Layout.{Lent, Held, outOfRange, tooShort}
-use Rattle.bench.specs.Calls.{Call, begin, receive, act, refused, done, Opening, Typed}
+use Rattle.bench.specs.Layout.{Lent, outOfRange, shortLists}
+use Rattle.bench.specs.Calls.{Call, begin, receive, act, refused, done, State, Opening, Typed}
 use Rattle.bench.specs.History.{History, fresh, openRefusal}
 use Rattle.bench.specs.Record.{freshBench}
 use Rattle.bench.specs.ByRecord.{openOf}
@@ -15,12 +15,12 @@ use Rattle.bench.proofs.Ties.{Tie}
 use Rattle.bench.proofs.CallTies.{Agrees, begin-agrees, receive-agrees, open-tie}
 use Rattle.bench.proofs.Refusals.{begin-lent}
 use Rattle.bench.proofs.Acting.{act-agrees}
-use Rattle.run.specs.Demand.{Way, call, standing, OpensRightly, OpenedAs, Demand3}
+use Rattle.run.specs.Demand.{Way, call, OpensRightly, OpenedAs, Demand3}
 use Rattle.run.specs.TheBench.{theBench}
 use Rattle.run.proofs.Reduce.{Simulation, faithful, demand3}
 
 -- each call agrees with the history's, by value or on a lent record
-agrees : (n own : ℕ) (w : Way) (x : Held Bench) (p : History) (c : Call) → Tie n own x p → Typed c → Agrees n own x p c (call theBench w x c)
+agrees : (n own : ℕ) (w : Way) (x : State) (p : History) (c : Call) → Tie n own x p → Typed c → Agrees n own x p c (call theBench w x c)
 agrees n own w x p (begin b) t y = begin-agrees n own x p t b
 agrees n own w x p (receive bytes) t y = receive-agrees n own x p t bytes (y .0)
 agrees n own w x p (act block priority out) t y = act-agrees n own x p t block priority out y
@@ -28,8 +28,8 @@ agrees n own w x p (act block priority out) t y = act-agrees n own x p t block p
 -- ---- Open
 
 module _ (n own : ℕ) (l : Lent) where
-  open-causes : {A : Type 0} → (outOfRange n own ≡ true → A) → (outOfRange n own ≡ false → tooShort l ≡ true → A) → (outOfRange n own ≡ false → tooShort l ≡ false → A) → A
-  open-causes f g h = either (outOfRange n own) f (λ e. either (tooShort l) (g e) (h e))
+  open-causes : {A : Type 0} → (outOfRange n own ≡ true → A) → (outOfRange n own ≡ false → shortLists l ≡ true → A) → (outOfRange n own ≡ false → shortLists l ≡ false → A) → A
+  open-causes f g h = either (outOfRange n own) f (λ e. either (shortLists l) (g e) (h e))
 
   refuses : (k : ℕ) → openRefusal n own l ≡ some k → openOf n own l .reply ≡ refused k
   unfolding openRefusal openOf
@@ -49,19 +49,19 @@ module _ (n own : ℕ) (l : Lent) where
 
   -- a bench that Open gave is fresh, and 7 and 8 do not hold
   given-fresh : (b : Bench) → openOf n own l ≡ record { reply = done; bench = b }
-      → (outOfRange n own ≡ false) × (tooShort l ≡ false) × (freshBench n own ≡ b)
+      → (outOfRange n own ≡ false) × (shortLists l ≡ false) × (freshBench n own ≡ b)
   unfolding openOf
   given-fresh b g =
       let no : (k : ℕ) → refused k ≡ done → ⊥ = λ k e. let z : _≡_ {A = ℕ} 0 1 = cc in absurd (omega arith) in
       open-causes
-      (λ e. absurd (no 7 (ap (λ (o : Opening Bench). o .reply) (rw e at g))))
-      (λ e f. absurd (no 8 (ap (λ (o : Opening Bench). o .reply) (rw (e, f) at g))))
-      (λ e f. (e, f, ap (λ (o : Opening Bench). o .bench) (rw (e, f) at g)))
+      (λ e. absurd (no 7 (ap (λ (o : Opening). o .reply) (rw e at g))))
+      (λ e f. absurd (no 8 (ap (λ (o : Opening). o .reply) (rw (e, f) at g))))
+      (λ e f. (e, f, ap (λ (o : Opening). o .bench) (rw (e, f) at g)))
 
 opens-rightly : OpensRightly theBench
 opens-rightly = record { refuses = λ n own l k t e. refuses n own l k e; opens = λ n own l t e. opens n own l e }
 
-opens-tied : (n own : ℕ) (x : Held Bench) → OpenedAs theBench n own x → Tie n own x fresh
+opens-tied : (n own : ℕ) (x : State) → OpenedAs theBench n own x → Tie n own x fresh
 opens-tied n own x o =
     let g = given-fresh n own (x .lent) (x .bench) (o .given) in
     subst (λ (b : Bench). Tie n own (record { bench = b; lent = x .lent }) fresh) (g .2)
@@ -70,7 +70,6 @@ opens-tied n own x o =
 -- ---- the theorem
 
 bench-simulates : Simulation theBench
-unfolding standing
 bench-simulates = record {
   rightly = opens-rightly;
   Rel = Tie;

@@ -1,10 +1,10 @@
 -- A volume that meets the premises votes as FourBeat says, so no two logs decided in it conflict. Assumes nothing.
-use Prim.Native.Nat.{ℕ, zero, suc, _/_, _%_, _≤_, _<_}
+use Prim.Native.Nat.{ℕ, zero, suc, _≤_, _<_}
 use native.Mathlib.Omega.{arith}
 use native.Mathlib.Nat.{le-refl}
 use mathlib.Core.Path.{_≡_, refl, sym, ap, subst, _∙_}
 use mathlib.Core.List.{List, []}
-use mathlib.Core.Option.{Option, some, Option·none-ne-some, Option·some-injective}
+use mathlib.Core.Option.{some, Option·none-ne-some, Option·some-injective}
 use mathlib.Core.Bool.{Bool, true, false, not, _&&_, and-eq-true-iff}
 use borrow.Author.Tests.{lt-ltb, le-leb}
 use Rattle.message.specs.Logs.{Block, Log, Prefix, Compatible}
@@ -13,19 +13,18 @@ use Rattle.agreement.specs.Sets.{weigh, ones}
 use Rattle.agreement.specs.Reading.{Grade, LongestLog}
 use Rattle.agreement.specs.Heard.{heardLogs, votersOf, readingFrom, gradeWith, heardProposals, voteAmong}
 use Rattle.agreement.proofs.SetLaws.{weigh-cong}
-use Rattle.agreement.proofs.SenderLaws.{logBy, grade-some}
-use Rattle.agreement.proofs.GradeSources.{vote-extends}
-use Rattle.bench.specs.Calendar.{lastView, viewBeat, inputBeat, snapshotOneBeat, snapshotTwoBeat, closeBeat, endBeat, actAt}
+use Rattle.agreement.proofs.SenderLaws.{grade-some}
+use Rattle.agreement.proofs.GradeSources.{vote-extends, logBy}
+use Rattle.bench.specs.Calendar.{lastView, viewBeat, inputBeat, snapshotOneBeat, snapshotTwoBeat, closeBeat, endBeat, actAt, viewOf, placeIn}
 use Rattle.bench.specs.Calls.{Call}
 use Rattle.bench.specs.Acts.{vote, makes, inViews, decides}
 use Rattle.bench.specs.History.{History, beatNow, snapshotOf, lockAt, decisionAt, seenAt, heardAt, madeBy, decidedBy, after, awake}
-use Rattle.bench.proofs.CallLaws.{act-ok}
-use Rattle.run.specs.Places.{ActsAfter, MakesAfter, Decides}
-use Rattle.run.specs.Places as places
+use Rattle.run.specs.Places.{ActsAfter, MakesAfter, sendsMade, Decides}
+
 use Rattle.run.specs.Premises.{Volume, Keeps, Delivery, Numbers, Majority, counted, breaker}
 use Rattle.run.proofs.Hearing.{reading}
 use Rattle.run.proofs.FourBeat.{FourBeat, awakeBoth, Decided, four-beat-safety}
-use Rattle.run.proofs.Beats.{has-beat, once, beat-is}
+use Rattle.run.proofs.Beats.{once, beat-is}
 use Rattle.run.proofs.HeardFrom.{Vote, made-vote}
 use Rattle.run.proofs.ActPlaces.{place-heardAt, recorded-before}
 use Rattle.run.proofs.Snapshots.{ReadAfter, GradedAt, graded-at}
@@ -39,8 +38,8 @@ vote-made : (n own : ℕ) (p : History) (block : Block) (priority v : ℕ) (L : 
     → madeBy n own p block priority ≡ some (logMessage (logBy own v (voteAmong n (heardProposals (p .proposals) v) L)))
 unfolding madeBy makes vote
 vote-made n own p block priority v L e l q =
-    let d : beatNow p / 4 ≡ v = omega arith in
-    let m : beatNow p % 4 ≡ 1 = omega arith in
+    let d : viewOf (beatNow p) ≡ v = omega arith in
+    let m : placeIn (beatNow p) ≡ 1 = omega arith in
     rw (d, m, q) (rw (le-leb v lastView l, inViews))
 
 -- a rule-keeper made the LOG of view v with log L
@@ -52,16 +51,12 @@ pub record Voted (W : Volume) (x v : ℕ) (L : Log) : Type 0 where
 module _ (W : Volume) where
   voted-of : (x v : ℕ) (L : Log) → Keeps W x → (pre : List Call) (b : ℕ) → MakesAfter (W .n) x (W .calls x) pre b (logBy x v L) → Voted W x v L
   voted-of x v L k pre b t =
-      let q = made-vote (W .n) x (after (W .n) x pre) (t .block) (t .priority) (logBy x v L) (t .made) .beat in
-      let e : b ≡ inputBeat v = sym (beat-is (after (W .n) x pre) b (t .beat)) ∙ q in
+      let q = made-vote (W .n) x (after (W .n) x pre) (t .acts .block) (t .acts .priority) (logBy x v L) (t .made) .beat in
+      let e : b ≡ inputBeat v = sym (beat-is (after (W .n) x pre) b (t .acts .beat)) ∙ q in
       record { keeps = k; pre = pre; made = subst (λ (c : ℕ). MakesAfter (W .n) x (W .calls x) pre c (logBy x v L)) e t }
 
   the-vote : (x v : ℕ) (L : Log) (d : Voted W x v L) → Vote (W .n) x (after (W .n) x (d .pre)) (logBy x v L)
-  the-vote x v L d = made-vote (W .n) x (after (W .n) x (d .pre)) (d .made .block) (d .made .priority) (logBy x v L) (d .made .made)
-
-  acts-of : (x v : ℕ) (L : Log) (d : Voted W x v L) → ActsAfter (W .n) x (W .calls x) (d .pre) (inputBeat v)
-  acts-of x v L d =
-      let t = d .made in record { block = t .block; priority = t .priority; out = t .out; place = t .place; ok = t .ok; beat = t .beat }
+  the-vote x v L d = made-vote (W .n) x (after (W .n) x (d .pre)) (d .made .acts .block) (d .made .acts .priority) (logBy x v L) (d .made .made)
 
   -- the premise on numbers, for what is taken or made
   numbers : Numbers W → (r b v x : ℕ) (L : Log) → awakeb W r b ≡ true → Took (W .n) r (W .calls r) b (logBy x v L) → keepsb W x ≡ true → Voted W x v L
@@ -69,25 +64,25 @@ module _ (W : Volume) where
       let y = N x r (keeps-of W x k) (awake-place W r b a .keeps) pre c (logBy x v L) t refl in
       voted-of x v L (keeps-of W x k) (y .0) (y .1) (y .2)
   numbers N r b v x L a (tookMade pre c t l) k =
-      let e : x ≡ r = made-vote (W .n) r (after (W .n) r pre) (t .block) (t .priority) (logBy x v L) (t .made) .sender in
+      let e : x ≡ r = made-vote (W .n) r (after (W .n) r pre) (t .acts .block) (t .acts .priority) (logBy x v L) (t .made) .sender in
       voted-of x v L (keeps-of W x k) pre c (subst (λ (z : ℕ). MakesAfter (W .n) z (W .calls z) pre c (logBy x v L)) (sym e) t)
 
   voted-acts : (v x : ℕ) (L : Log) → Voted W x v L → awakeb W x (inputBeat v) ≡ true
-  voted-acts v x L d = place-awake W x (inputBeat v) (d .keeps) (d .pre) (acts-of x v L d)
+  voted-acts v x L d = place-awake W x (inputBeat v) (d .keeps) (d .pre) (d .made .acts)
 
   -- the lock of a vote: its snapshot was taken, and it is the longest log with grade 1
   locked : (x v : ℕ) (L : Log) (d : Voted W x (suc v) L)
       → GradedAt (W .n) x (W .calls x) (d .pre) v (snapshotTwoBeat v) (the-vote x (suc v) L d .locked)
   unfolding lockAt
   locked x v L d =
-      graded-at (W .n) x (W .calls x) (d .pre) _ (d .made .place .1) v (snapshotTwoBeat v) (the-vote x (suc v) L d .locked) (the-vote x (suc v) L d .isLock)
+      graded-at (W .n) x (W .calls x) (d .pre) _ (d .made .acts .place .1) v (snapshotTwoBeat v) (the-vote x (suc v) L d .locked) (the-vote x (suc v) L d .isLock)
 
   voted-looks : (v x : ℕ) (L : Log) → Voted W x (suc v) L → awakeb W x (snapshotTwoBeat v) ≡ true
   voted-looks v x L d = let k = locked x v L d in place-awake W x (snapshotTwoBeat v) (d .keeps) (k .start) (k .acts)
 
   voted-once : (v x : ℕ) (L M : Log) → Voted W x v L → Voted W x v M → L ≡ M
   voted-once v x L M d e =
-      let s : d .pre ≡ e .pre = once (W .n) x (W .calls x) (d .pre) (e .pre) (inputBeat v) (acts-of x v L d) (acts-of x v M e) in
+      let s : d .pre ≡ e .pre = once (W .n) x (W .calls x) (d .pre) (e .pre) (inputBeat v) (d .made .acts) (e .made .acts) in
       let a = the-vote x v L d in
       let b = the-vote x v M e in
       let l : a .locked ≡ b .locked =
@@ -95,7 +90,7 @@ module _ (W : Volume) where
       a .voted ∙ (λ i. voteAmong (W .n) (heardProposals (after (W .n) x (s i) .proposals) v) (l i)) ∙ sym (b .voted)
 
   voted-sent : (v x : ℕ) (L : Log) → Voted W x v L → Sent W x (inputBeat v) (logBy x v L)
-  voted-sent v x L d = record { keeps = d .keeps; beat = inputBeat v; le = le-refl (inputBeat v); sends = places.makes (d .pre) (d .made) }
+  voted-sent v x L d = record { keeps = d .keeps; beat = inputBeat v; le = le-refl (inputBeat v); sends = sendsMade (d .pre) (d .made) }
 
   -- the reading of two acts, as the Hearing has it
   longest-read : (D : Delivery W) (N : Numbers W) (x v s g : ℕ) (start pre : List Call) (K : Log)
@@ -114,7 +109,7 @@ module _ (W : Volume) where
       let k = locked x v L d in
       let a = the-vote x (suc v) L d in (
         a .locked,
-        longest-read D N x v (snapshotTwoBeat v) (inputBeat (suc v)) (k .start) (d .pre) (a .locked) (k .acts) (acts-of x (suc v) L d) (k .longest),
+        longest-read D N x v (snapshotTwoBeat v) (inputBeat (suc v)) (k .start) (d .pre) (a .locked) (k .acts) (d .made .acts) (k .longest),
         subst (Prefix (a .locked)) (sym (a .voted)) (vote-extends (W .n) (heardProposals (after (W .n) x (d .pre) .proposals) (suc v)) (a .locked)),
       )
 
@@ -129,12 +124,7 @@ module _ (W : Volume) where
           pre = pre;
           made =
               record {
-                block = a .block;
-                priority = a .priority;
-                out = a .out;
-                place = a .place;
-                ok = a .ok;
-                beat = a .beat;
+                acts = a;
                 made = vote-made (W .n) x p (a .block) (a .priority) v K (beat-is p (inputBeat v) (a .beat)) l q;
               };
         },
@@ -247,14 +237,12 @@ module _ (W : Volume) (D : Delivery W) (N : Numbers W) (J : Majority W) where
   unfolding decidedBy hearing fourBeat
   decided-of r L k d =
       let p = after (W .n) r (d .pre) in
-      let x = decides-at (W .n) p (beatNow p / 4) (beatNow p % 4) L (d .decided) in
+      let x = decides-at (W .n) p (viewOf (beatNow p)) (placeIn (beatNow p)) L (d .decided) in
       let u = x .view in
-      let b = has-beat (W .n) r (d .pre) (act-ok (W .n) p (d .block) (d .priority) (d .out) (d .ok) .1) in
-      let e : b .0 ≡ closeBeat u = omega (arith, beat-is p (b .0) (b .1), x .row, x .next) in
-      let a : ActsAfter (W .n) r (W .calls r) (d .pre) (closeBeat u) =
-      record { block = d .block; priority = d .priority; out = d .out; place = d .place; ok = d .ok; beat = b .1 ∙ ap {B = Option ℕ} some e } in
-      let s = graded-at (W .n) r (W .calls r) (d .pre) _ (d .place .1) u (snapshotOneBeat u) L (x .given) in
-      let l = last-begun (W .n) r (W .calls r) (d .pre) _ (d .place .1) (b .0) (b .1) .1 in (
+      let e : d .beat ≡ closeBeat u = omega (arith, beat-is p (d .beat) (d .acts .beat), x .row, x .next) in
+      let a = subst (ActsAfter (W .n) r (W .calls r) (d .pre)) e (d .acts) in
+      let s = graded-at (W .n) r (W .calls r) (d .pre) _ (d .acts .place .1) u (snapshotOneBeat u) L (x .given) in
+      let l = last-begun (W .n) r (W .calls r) (d .pre) _ (d .acts .place .1) (d .beat) (d .acts .beat) .1 in (
         u,
         record {
           snaps = place-awake W r (snapshotOneBeat u) k (s .start) (s .acts);

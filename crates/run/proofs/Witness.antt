@@ -20,14 +20,14 @@ use lib.ListN.{replicate, getD}
 use Rattle.message.specs.Logs.{Log}
 use Rattle.message.specs.Message.{logMessage, proposalMessage, bytesOf}
 use Rattle.agreement.specs.Filing.{first, second}
-use Rattle.bench.specs.Layout.{Held, mostBytes}
-use Rattle.bench.specs.Calls.{Call, begin, receive, act, Reply, refused, done, took, acted, Answer, AllTyped}
+use Rattle.bench.specs.Layout.{mostBytes}
+use Rattle.bench.specs.Calls.{Call, begin, receive, act, Reply, refused, done, took, acted, Answer, AllTyped, State}
 use Rattle.bench.specs.Acts.{Stand}
 use Rattle.bench.specs.History.{ActRecord, after, answersTo, stand}
-use Rattle.bench.specs.declared.Bench.{Bench}
+use Rattle.bench.specs.ByRecord.{standing}
 use Rattle.run.specs.Places.{Decides}
 use Rattle.run.specs.Premises.{Volume, Keeps, Delivery, Numbers, Majority}
-use Rattle.run.specs.Demand.{Event, callsIn, runs, standing, OpenedAs, Claim}
+use Rattle.run.specs.Demand.{Event, callsIn, runs, OpenedAs, Claim}
 use Rattle.run.specs.TheBench.{theBench}
 use Rattle.run.proofs.Checks.{delivered, numbered, majority}
 use Rattle.run.proofs.TypedChecks.{volume-typed}
@@ -206,20 +206,20 @@ typed = volume-typed volume refl
 
 -- ---- the theorem, used: three benches opened on lists of any contents that went through these calls, each by value or on a lent record
 
-module _ (from : ℕ → Held Bench) (events : ℕ → List Event)
+module _ (from : ℕ → State) (events : ℕ → List Event)
     (opened : (i : ℕ) → Keeps volume i → OpenedAs theBench 4 i (from i))
     (went : (i : ℕ) → Keeps volume i → callsIn (events i) ≡ volume .calls i) where
   -- no two decided logs conflict, and all that demand 3 claims besides
   pub claimed : Claim theBench volume from events
   claimed = bench-demand3 .agrees volume from events opened went typed delivers numbers outnumbers
 
-  stood : (i : ℕ) → Keeps volume i → standing theBench (runs theBench (from i) (events i)) ≡ stand 4 i (volume .calls i)
+  stood : (i : ℕ) → Keeps volume i → standing (runs theBench (from i) (events i)) ≡ stand 4 i (volume .calls i)
   stood i k =
-      bench-demand3 .stood 4 i (from i) (events i) (opened i k) (subst AllTyped (sym (went i k)) (typed i k)) ∙ ap (stand 4 i) (went i k)
+      bench-demand3 .alone .stood 4 i (from i) (events i) (opened i k) (subst AllTyped (sym (went i k)) (typed i k)) ∙ ap (stand 4 i) (went i k)
 
   -- what stands in their records and lists at the end is [5,6], [5,6] and [5], with no mark
   pub standing-logs :
-      (standing theBench (runs theBench (from 0) (events 0)) ≡ unmarked fiveSix)
-      × (standing theBench (runs theBench (from 1) (events 1)) ≡ unmarked fiveSix)
-      × (standing theBench (runs theBench (from 2) (events 2)) ≡ unmarked five)
+      (standing (runs theBench (from 0) (events 0)) ≡ unmarked fiveSix)
+      × (standing (runs theBench (from 1) (events 1)) ≡ unmarked fiveSix)
+      × (standing (runs theBench (from 2) (events 2)) ≡ unmarked five)
   standing-logs = (stood 0 keep0 ∙ stands .0, stood 1 keep1 ∙ stands .1, stood 2 keep2 ∙ stands .2)

@@ -34,15 +34,10 @@ module _ (n own : ℕ) (cs : List Call) where
     pub ok : refusal n (after n own pre) (act block priority out) ≡ none
     pub beat : after n own pre .last ≡ some b
 
-  -- after `pre` it acts in beat b, not refused, and makes the LOG m
+  -- and by that act it makes the LOG m
   pub record MakesAfter (pre : List Call) (b : ℕ) (m : Content) : Type 0 where
-    pub block : Block
-    pub priority : ℕ
-    pub out : List ℕ
-    pub place : At cs pre (act block priority out)
-    pub ok : refusal n (after n own pre) (act block priority out) ≡ none
-    pub beat : after n own pre .last ≡ some b
-    pub made : madeBy n own (after n own pre) block priority ≡ some (logMessage m)
+    pub acts : ActsAfter pre b
+    pub made : madeBy n own (after n own pre) (acts .block) (acts .priority) ≡ some (logMessage m)
 
   -- After `pre` it takes the LOG m: handed to Receive in the gathering of beat b, and "no listed cause refuses it".
   pub record TakesAfter (pre : List Call) (b : ℕ) (m : Content) : Type 0 where
@@ -60,17 +55,14 @@ module _ (n own : ℕ) (cs : List Call) where
 
   -- At beat b it makes the LOG m or passes it on: each *first* and *second* LOG, "in that beat", also one not acted in.
   pub data Sends (b : ℕ) (m : Content) : Type 0 where
-    makes : (pre : List Call) → MakesAfter pre b m → Sends b m
-    passesOn : (pre : List Call) (t : TakesAfter pre b m) → PassedOn pre (t .bytes) → Sends b m
+    sendsMade : (pre : List Call) → MakesAfter pre b m → Sends b m
+    sendsOn : (pre : List Call) (t : TakesAfter pre b m) → PassedOn pre (t .bytes) → Sends b m
 
   -- L is decided: an Act, not refused, has it to decide, "even where this changes nothing"
   pub record Decides (L : Log) : Type 0 where
     pub pre : List Call
-    pub block : Block
-    pub priority : ℕ
-    pub out : List ℕ
-    pub place : At cs pre (act block priority out)
-    pub ok : refusal n (after n own pre) (act block priority out) ≡ none
+    pub beat : ℕ
+    pub acts : ActsAfter pre beat
     pub decided : decidedBy n (after n own pre) ≡ some L
 
 -- The LOG m is *with* a bench that has made the calls `cs`: handed to Receive in a gathering while its view is open there.

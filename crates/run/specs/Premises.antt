@@ -11,8 +11,8 @@ use Rattle.bench.specs.Calls.{Call}
 use Rattle.bench.specs.History.{awake}
 use Rattle.run.specs.Places.{Begins, ActsAfter, MakesAfter, TakesAfter, Sends, With}
 
--- All benches have one n. A rule-keeper (an honest validator) is known by its own number and has its list of calls; a number below n that no
--- rule-keeper holds counts as a rule-breaker.
+-- A volume is one instance of the protocol: all its benches have one n. A rule-keeper (an honest validator) is known by its own number and has its
+-- list of calls; a number below n that no rule-keeper holds counts as a rule-breaker (a Byzantine validator).
 pub record Volume : Type 0 where
   pub n : ℕ
   pub keeper : ℕ → Bool
@@ -25,7 +25,7 @@ Keeps W i = (i < W .n) × (W .keeper i ≡ true)
 -- Delivery: "whatever LOG message a rule-keeper makes or passes on at beat b is with every other before that one acts at its first beat after b".
 -- Its first beat b′ is the first "in which it is awake"; a bench that never acts again is owed nothing. "once that window has passed, nothing is
 -- owed": b′ is at most the last beat of the LOG's window. It may have been handed over in any gathering with the view open, an earlier one or one
--- not acted in. What a bench made itself need not be handed back to it.
+-- not acted in. A LOG under the bench's own number, which by the numbers it made itself, need not be handed back to it.
 abbrev pub Delivery : Volume → Type 0
 Delivery W =
     (p q : ℕ) → Keeps W p → Keeps W q → (p ≡ q → ⊥)
