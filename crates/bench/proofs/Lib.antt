@@ -8,9 +8,10 @@ pub mod FineAgreements
 pub mod FineProposals
 pub mod FineBench
 pub mod Slots
--- The refusals, of every record:
+-- The refusals, and the outgoing buffer, of every record:
 pub mod ReadRefusals
 pub mod Refusals
+pub mod Buffer
 -- The tie between record and history, kept by every call:
 pub mod Ties
 pub mod Filling
@@ -27,3 +28,5 @@ pub mod Odd
 pub mod Order
 pub mod Windows
 pub mod Sample
+pub mod Made
+pub mod Served

@@ -89,6 +89,19 @@ offered g = parts (emptyAgreement 0) (emptyAgreement 0) g
 abbrev sets : List Bool → List Bool → List Bool → List Bool → Agreement
 sets voters equivocators one two = agreement 0 (long 0 0) voters equivocators one two
 
+-- no length, and both snapshots said to be taken: these
+abbrev taken : List Bool → List Bool → Agreement
+taken one two = record {
+  view = 0;
+  lengths = long 0 0;
+  voters = nobody;
+  equivocators = nobody;
+  one = one;
+  two = two;
+  hasone = true;
+  hastwo = true;
+}
+
 -- ---- the rows
 
 pub record Row : Type 0 where
@@ -147,7 +160,7 @@ rows =
     ∷ fine (odd (sets nobody (only 4) nobody nobody))
     ∷ bad (even (sets nobody (only 5) nobody nobody))
     ∷ bad (odd (sets nobody (only 31) nobody nobody))
-    -- the snapshots, of senders in S or not,
+    -- the snapshots; such a sender is outside S, or V or E names it too, so this is never the only cause;
     ∷ fine (even (sets (only 4) nobody (only 4) (only 4)))
     ∷ bad (even (sets nobody nobody (only 5) nobody))
     ∷ bad (odd (sets (only 5) nobody (only 5) nobody))
@@ -169,6 +182,12 @@ rows =
     ∷ bad (even (sets (only 1) nobody nobody (only 0)))
     ∷ bad (odd (sets nobody (only 1) (only 4) nobody))
     ∷ bad (odd (sets (only 3) (only 1) (only 3) (only 4)))
+    -- the flag of a snapshot does not matter
+    ∷ bad (even (taken (only 0) nobody))
+    ∷ bad (even (taken nobody (only 0)))
+    ∷ bad (odd (taken (only 4) nobody))
+    ∷ bad (odd (taken nobody (only 4)))
+    ∷ bad (even (taken nobody (only 5)))
     -- Nothing else is a cause. A gathering with no beat begun, marked as parted; ..
     ∷ fine (record {
       n = 5;

@@ -1,4 +1,5 @@
--- The first failure is given: calls with many faults at once, then one fault less each time. One table, computed. Assumes nothing.
+-- The first failure is given: calls with many faults at once, then one fault less each time; and calls with two faults alone, which stand next to
+-- each other in the order. One table, computed. Assumes nothing.
 use Prim.Native.Nat.{ℕ}
 use mathlib.Core.Bool.{true, false}
 use mathlib.Core.List.{List, [], _∷_, _++_, map}
@@ -60,15 +61,32 @@ held b x y = record { bench = b; lent = lent x y }
 abbrev bad : Bench
 bad = plain 0 0 0 0
 
--- bench 4 of 5, acted at beat 8; a gathering said to be under way, `next` being one more than the beat
+-- bench 4 of 5, acted at beat 8, or at beat 5; a gathering said to be under way, `next` being one more than the beat
 abbrev idle : Bench
 idle = plain 5 4 9 0
+
+abbrev still : Bench
+still = plain 5 4 6 0
 
 abbrev pub gathering : ℕ → Bench
 gathering next = record {
   n = 5;
   own = 4;
   next = next;
+  gathering = true;
+  even = emptyAgreement 0;
+  odd = emptyAgreement 0;
+  proposals = emptyProposals 0;
+  decided = 0;
+  parted = false;
+}
+
+-- gathering at beat 5, and beyond its limits by n alone
+abbrev badGathering : Bench
+badGathering = record {
+  n = 33;
+  own = 4;
+  next = 6;
   gathering = true;
   even = emptyAgreement 0;
   odd = emptyAgreement 0;
@@ -114,6 +132,14 @@ rows =
     ∷ begins (held (plain 5 4 4000007 0) 6208 6208) 4000006 (refused 20)
     ∷ begins (held (gathering 5) 6208 6208) 4 (refused 20)
     ∷ begins (held (gathering 5) 6208 6208) 5 done
+    -- no beat begun: no 20, whatever the flag says
+    ∷ begins (held (gathering 0) 6208 6208) 0 done
+    -- 9 and 8, with 20 and without; 8 and 20
+    ∷ begins (held (plain 0 0 9 0) 6207 6207) 8 (refused 9)
+    ∷ begins (held bad 6208 6207) 8 (refused 9)
+    ∷ begins (held idle 6207 6208) 8 (refused 8)
+    -- 10 and 20 meet only in a record beyond its limits
+    ∷ begins (held (plain 5 4 4000008 0) 6208 6208) 4000007 (refused 9)
     -- Receive: 9, 8, 22, 1 to 6, 21
     ∷ takes (held bad 6207 6207) [] (refused 9)
     ∷ takes (held idle 6208 6207) [] (refused 8)
@@ -127,6 +153,27 @@ rows =
     ∷ takes (held (gathering 1) 6208 6208) (head 1 4 2 0 late 255 ++ replicate 10 0) (refused 5)
     ∷ takes (held (gathering 1) 6208 6208) (head 1 4 2 0 one 255 ++ replicate 10 0) (refused 6)
     ∷ takes (held (gathering 1) 6208 6208) (head 1 4 2 0 one 255 ++ replicate 10 1) (refused 21)
+    -- 9 and 8, of a message open at beat 5; 8 and 22; 22 with 2, 3, 4, 5, 6 and 21
+    ∷ takes (held badGathering 6207 6208) (head 1 4 2 0 one 255 ++ replicate 10 1) (refused 9)
+    ∷ takes (held still 6208 6207) (head 1 4 2 0 one 255 ++ replicate 10 1) (refused 8)
+    ∷ takes (held still 6208 6208) (head 1 4 2 0 one 255 ++ replicate 9 1) (refused 22)
+    ∷ takes (held still 6208 6208) (head 1 4 2 1 one 255 ++ replicate 10 1) (refused 22)
+    ∷ takes (held still 6208 6208) (head 1 5 2 0 one 255 ++ replicate 10 1) (refused 22)
+    ∷ takes (held still 6208 6208) (head 1 4 2 0 late 255 ++ replicate 10 1) (refused 22)
+    ∷ takes (held still 6208 6208) (head 1 4 2 0 one 255 ++ replicate 10 0) (refused 22)
+    ∷ takes (held idle 6208 6208) (head 1 4 2 0 one 255 ++ replicate 10 1) (refused 22)
+    -- 1 and 2: under 16 bytes no length is right; 2, by its count and by its length, and 3
+    ∷ takes (held (gathering 6) 6208 6208) (replicate 15 65) (refused 1)
+    ∷ takes (held (gathering 6) 6208 6208) (head 65 4 3 0 one 255 ++ replicate 650 1) (refused 2)
+    ∷ takes (held (gathering 6) 6208 6208) (head 1 4 1 0 one 1 ++ replicate 9 1) (refused 2)
+    -- 3, by the kind, byte 3 and a LOG's priority, and 4
+    ∷ takes (held (gathering 6) 6208 6208) (head 1 5 3 0 one 255 ++ replicate 10 1) (refused 3)
+    ∷ takes (held (gathering 6) 6208 6208) (head 1 5 2 1 one 255 ++ replicate 10 1) (refused 3)
+    ∷ takes (held (gathering 6) 6208 6208) (head 1 5 1 0 one 1 ++ replicate 10 1) (refused 3)
+    -- 4 and 5 (a view over its limit is open at no beat); 5 and 6; 6 and 21
+    ∷ takes (held (gathering 6) 6208 6208) (head 1 5 2 0 late 255 ++ replicate 10 1) (refused 4)
+    ∷ takes (held (gathering 6) 6208 6208) (head 1 4 2 0 late 255 ++ replicate 10 0) (refused 5)
+    ∷ takes (held (gathering 7) 6208 6208) (head 1 4 2 0 one 255 ++ replicate 10 0) (refused 6)
     -- Act: 9, 8, 11, 22
     ∷ acts (held bad 6207 6207) (replicate 655 7) (refused 9)
     ∷ acts (held idle 6207 6208) (replicate 655 7) (refused 8)
@@ -134,6 +181,9 @@ rows =
     ∷ acts (held idle 6208 6208) (replicate 655 7) (refused 11)
     ∷ acts (held idle 6208 6208) (replicate 656 7) (refused 22)
     ∷ acts (held (gathering 0) 6208 6208) (replicate 656 7) (refused 22)
+    -- 9 and 8; 8 and 11
+    ∷ acts (held badGathering 6207 6208) (replicate 656 7) (refused 9)
+    ∷ acts (held (gathering 4) 6207 6208) (replicate 655 7) (refused 8)
     -- 11 even where nothing would be made
     ∷ acts (held (gathering 4) 6208 6208) (replicate 655 7) (refused 11)
     ∷ acts (held (gathering 4) 6208 6208) (replicate 656 7) (acted none)

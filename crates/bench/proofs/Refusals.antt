@@ -67,9 +67,9 @@ module _ (n own : ℕ) (l : Lent) where
   open-refuses (open-lists e f) = open-8 e f
 
 -- the record beside a refused Open is of no bench
-pub no-bench : beyond (freshBench 0 0) ≡ true
+pub no-bench : (k : ℕ) → beyond (notOpened k .bench) ≡ true
 unfolding beyond
-no-bench = refl
+no-bench k = refl
 
 -- ---- Begin, Receive, Act: 9 and 8 come first in each
 

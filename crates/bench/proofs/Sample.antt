@@ -97,6 +97,9 @@ block name count = record { name = name; count = count }
 abbrev five : Log
 five = block 5 1 ∷ []
 
+abbrev fiveSix : Log
+fiveSix = block 5 1 ∷ block 6 1 ∷ []
+
 abbrev seven : Log
 seven = block 7 1 ∷ []
 
@@ -150,12 +153,57 @@ asleep = offering 0 5 1 9 ∷ at 1 ∷ at 2 ∷ at 4 ∷ at 5 ∷ at 6 ∷ []
 abbrev pub asleepLines : List Line
 asleepLines = line (some (proposal 0 five 9)) [] ∷ line (some (log 0 five)) [] ∷ line none [] ∷ line none [] ∷ line none [] ∷ line none five ∷ []
 
--- Decisions in conflict: the first stands, and the mark is set. (Only LOGs under its own number can bring a bench alone to this.)
+-- Asleep at 2, awake at 3: a lock and so a LOG at 5, and no decision at 6.
+abbrev pub late : List Event
+late = offering 0 5 1 9 ∷ at 1 ∷ at 3 ∷ at 4 ∷ at 5 ∷ at 6 ∷ []
+
+abbrev pub lateLines : List Line
+lateLines =
+    line (some (proposal 0 five 9)) [] ∷ line (some (log 0 five)) [] ∷ line none [] ∷ line none [] ∷ line (some (log 1 five)) [] ∷ line none [] ∷ []
+
+-- Decisions in conflict, at 10 by name and at 22 by count: what stands stays, and the mark is set, for good: also where a later decision extends
+-- what stands (14), equals it (18) or is a prefix of it (26). (Only LOGs under its own number can bring a bench alone to this.)
 abbrev pub parting : List Event
-parting = hearing 2 (log 0 five) ∷ hearing 6 (log 1 seven) ∷ at 10 ∷ at 11 ∷ []
+parting =
+    hearing 2 (log 0 five)
+    ∷ hearing 6 (log 1 seven)
+    ∷ hearing 10 (log 2 fiveSix)
+    ∷ at 11
+    ∷ hearing 14 (log 3 fiveSix)
+    ∷ hearing 18 (log 4 short)
+    ∷ hearing 22 (log 5 five)
+    ∷ at 26
+    ∷ []
 
 abbrev pub partingLines : List Line
-partingLines = line none [] ∷ line none five ∷ partedLine none five ∷ partedLine none five ∷ []
+partingLines =
+    line none []
+    ∷ line none five
+    ∷ partedLine none five
+    ∷ partedLine none five
+    ∷ replicate 4 (partedLine none fiveSix)
+
+-- Decisions that are proper prefixes of the log that stands, the empty one too, change nothing and set no mark; nor does the same log again.
+abbrev pub keeping : List Event
+keeping = hearing 2 (log 0 fiveSix) ∷ hearing 6 (log 1 five) ∷ hearing 10 (log 2 []) ∷ hearing 14 (log 3 fiveSix) ∷ at 18 ∷ []
+
+abbrev pub keepingLines : List Line
+keepingLines = line none [] ∷ replicate 4 (line none fiveSix)
+
+-- the count alone is another
+abbrev pub countParting : List Event
+countParting = hearing 2 (log 0 five) ∷ hearing 6 (log 1 short) ∷ at 10 ∷ []
+
+abbrev pub countPartingLines : List Line
+countPartingLines = line none [] ∷ line none five ∷ partedLine none five ∷ []
+
+-- A LOG under its own number, heard before its own is made: that is made all the same, and makes the bench an equivocator to itself. So there is no
+-- candidate, though a block is offered, no lock and no decision.
+abbrev pub forged : List Event
+forged = offering 0 5 1 9 ∷ hearing 1 (log 0 seven) ∷ at 2 ∷ at 3 ∷ offering 4 6 1 9 ∷ at 5 ∷ at 6 ∷ []
+
+abbrev pub forgedLines : List Line
+forgedLines = line (some (proposal 0 five 9)) [] ∷ line (some (log 0 five)) [] ∷ replicate 5 (line none [])
 
 -- Past the last view nothing is proposed or voted, though there is a candidate, a block and a lock; the last decision stands.
 abbrev pub ending : List Event
@@ -164,7 +212,8 @@ ending = hearing 4000001 (log 1000000 five) ∷ at 4000002 ∷ at 4000003 ∷ of
 abbrev pub endingLines : List Line
 endingLines = replicate 5 (line none []) ++ (line none five ∷ [])
 
-pub rolls-hold : map roll (sample ∷ twoViews ∷ asleep ∷ parting ∷ ending ∷ []) ≡ sampleLines ∷ twoViewsLines ∷ asleepLines ∷ partingLines ∷ endingLines ∷ []
+pub rolls-hold : map roll (sample ∷ twoViews ∷ asleep ∷ late ∷ parting ∷ keeping ∷ countParting ∷ forged ∷ ending ∷ [])
+    ≡ sampleLines ∷ twoViewsLines ∷ asleepLines ∷ lateLines ∷ partingLines ∷ keepingLines ∷ countPartingLines ∷ forgedLines ∷ endingLines ∷ []
 unfolding
     rollFrom beginOf receiveOf readOf malformed meaningIn choice.some actOf actedOf changed snappedOne snappedTwo settled candidateOf lockOf decisionOf fileMessage keptAgreement keptProposals agreementOf
     proposalsOf withAgreement anyPlace beyondAgreement beyondProposals beyond propose vote makes voteAmong keptProposal fileProposalOf bestOf gradeAmong

@@ -1,5 +1,4 @@
--- The calendar and the layout in numbers; when a message is taken, and the second of two calls (document 01, "Schedules small enough to draw"):
--- computed. Assumes nothing.
+-- The calendar and the layout in numbers, and when a message is taken (document 01, "Schedules small enough to draw"): computed. Assumes nothing.
 use Prim.Native.Nat.{ℕ, _+_}
 use mathlib.Core.List.{List, [], _∷_, map}
 use mathlib.Core.Path.{_≡_, refl}
@@ -79,8 +78,12 @@ rows =
     ∷ row 4000001 (log 1000000) (took first)
     ∷ row 4000006 (log 1000000) (took first)
     ∷ row 3999999 (proposal 1000000) (refused 21)
+    ∷ row 4000000 (proposal 1000000) (took first)
     ∷ row 4000001 (proposal 1000000) (took first)
     ∷ row 4000002 (proposal 1000000) (refused 21)
+    -- past the last view there is none, though the beat would fit
+    ∷ row 4000005 (log 1000001) (refused 5)
+    ∷ row 4000004 (proposal 1000001) (refused 5)
     ∷ []
 
 pub rows-hold : map (λ (r : Row). receiveOf (held (gathering (r .beat + 1)) leastLent leastLent) (bytesOf (r .message)) .answer .reply) rows

@@ -1,5 +1,6 @@
--- One bench, the field's validator, by its history: what it is to answer, make and decide, worked out from its list of calls and from nothing else (document 01, the words
--- on demand 3 after the calendar). Nothing is forgotten here; a view that is no longer open is read by no later act. Assumes nothing.
+-- One bench, the field's validator, by its history: what it is to answer, make and decide, worked out from its list of calls and from nothing else
+-- (document 01, the words on demand 3 after the calendar). Nothing is forgotten here; a view that is no longer open is read by no later act. Assumes
+-- nothing.
 use Prim.Native.Nat.{ℕ, zero, suc}
 use mathlib.Core.Bool.{Bool, true, false, not, _||_}
 use mathlib.Core.List.{List, [], _∷_}

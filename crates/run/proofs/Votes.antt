@@ -20,7 +20,6 @@ use Rattle.bench.specs.Calls.{Call}
 use Rattle.bench.specs.Acts.{vote, makes, inViews, decides}
 use Rattle.bench.specs.History.{History, beatNow, snapshotOf, lockAt, decisionAt, seenAt, heardAt, madeBy, decidedBy, after, awake}
 use Rattle.run.specs.Places.{ActsAfter, MakesAfter, sendsMade, Decides}
-
 use Rattle.run.specs.Premises.{Volume, Keeps, Delivery, Numbers, Majority, counted, breaker}
 use Rattle.run.proofs.Hearing.{reading}
 use Rattle.run.proofs.FourBeat.{FourBeat, awakeBoth, Decided, four-beat-safety}

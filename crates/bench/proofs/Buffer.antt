@@ -1,0 +1,223 @@
+-- The outgoing buffer after an Act, for every record, list, offer and buffer: a made message stands at its front, and the bytes past it keep their
+-- values; where nothing is made, refused Acts included, all of them do. A made message always has room: it has 64 blocks at the most. Assumes
+-- nothing.
+use Prim.Native.Nat.{ℕ, zero, suc, _+_, _≤_, _<_}
+use native.Mathlib.Omega.{arith}
+use mathlib.Core.Bool.{Bool, false, not, _||_, and-eq-true-iff}
+use mathlib.Core.List.{List, [], _∷_, _++_}
+use mathlib.Core.Logic.{inl, inr}
+use mathlib.Core.Option.{Option, some, none, Option·none-ne-some, Option·some-injective}
+use mathlib.Core.Path.{_≡_, refl, sym, ap, subst, _∙_}
+use borrow.Author.Tests.{ltb-true, ltb-false}
+use lib.Dec.{eqb, ltb}
+use lib.ListN.{length, getD, drop, length-append}
+use Rattle.message.specs.Limits.{mostBlocks, lastView}
+use Rattle.message.specs.Choice.{pick}
+use Rattle.message.specs.Logs.{Block, Log}
+use Rattle.message.specs.Message.{Meaning, logOf, bytesOf}
+use Rattle.message.proofs.TestLaws.{either, or-false}
+use Rattle.message.proofs.LogLaws.{prefix-length}
+use Rattle.message.proofs.ListedLaws.{length-at}
+use Rattle.message.proofs.PartLaws.{put-front}
+use Rattle.message.proofs.WrittenFields.{length-message}
+use Rattle.agreement.specs.Limits.{mostSenders, placeOf}
+use Rattle.agreement.specs.Sets.{count, ones, member}
+use Rattle.agreement.specs.Reading.{longest}
+use Rattle.agreement.specs.Record.{filedLog, lacksRoom, overlong, readingOf}
+use Rattle.agreement.specs.Grades.{gradeAmong, gradeOne}
+use Rattle.agreement.specs.Kept.{nothing, only, differing, Proposed, keptProposal}
+use Rattle.agreement.specs.declared.Agreement.{Agreement}
+use Rattle.agreement.specs.declared.Proposals.{Proposals}
+use Rattle.agreement.proofs.SetLaws.{weigh-none}
+use Rattle.agreement.proofs.ReadingLaws.{grade-supporter}
+use Rattle.agreement.proofs.LongestLaws.{longest-iff, record-heard}
+use Rattle.agreement.proofs.GradeSources.{vote-from}
+use Rattle.bench.specs.Layout.{logsPlace, proposalsPlace, mostBytes, shortLists, outOfRange}
+use Rattle.bench.specs.Calendar.{lastBeat, viewOf, placeIn, Act, proposing, voting, deciding, snapping, actAt}
+use Rattle.bench.specs.Calls.{Reply, refused, done, took, acted, State}
+use Rattle.bench.specs.Acts.{mayPropose, propose, vote, isView, inViews, makes, outAfter}
+use Rattle.bench.specs.Record.{agreementOf, proposalsOf, beatOf, idle, tooLong, badProposer, anyPlace, beyondAgreement, beyondProposals, beyond}
+use Rattle.bench.specs.ByRecord.{lockOf, seenOf, over, actedOf, actOf}
+use Rattle.bench.specs.declared.Bench.{Bench}
+use Rattle.bench.proofs.Fine.{no-place}
+use Rattle.bench.proofs.FineAgreements.{getD-all}
+
+-- ---- what an answer says was made; a refusal made nothing
+
+abbrev pub madeIn : Reply → Option Meaning
+madeIn (refused k) = none
+madeIn done = none
+madeIn (took w) = none
+madeIn (acted m) = m
+
+-- ---- logs that are read have 64 blocks at the most
+
+graded-short : (names counts : List ℕ) (base : ℕ) (g : Agreement) (among : List Bool) (L : Log) → gradeAmong names counts base g among ≡ some L
+    → length L ≤ mostBlocks
+unfolding gradeAmong overlong
+graded-short names counts base g among L e =
+    either (lacksRoom names counts base || overlong (g .lengths))
+    (λ t. absurd (Option·none-ne-some L (rw t at e)))
+    (λ t.
+    let r : longest mostSenders ones (readingOf names counts base g among) ≡ some L = rw t at e in
+    let l = longest-iff mostSenders ones (readingOf names counts base g among) (record-heard mostSenders names counts base g among) (some L) .0 r in
+    let s = grade-supporter mostSenders ones (readingOf names counts base g among) L (l .grade) in
+    let i = s .sender in
+    let over : ℕ → Bool = λ (j : ℕ). ltb mostBlocks (getD (g .lengths) j 0) in
+    let few = ltb-false 0 (count mostSenders over) (or-false (lacksRoom names counts base) (overlong (g .lengths)) t .1) in
+    let k = ltb-false mostBlocks (getD (g .lengths) i 0) (weigh-none mostSenders over i (omega arith) (s .below)) in
+    let p = prefix-length (s .extends) in
+    let n = length-at names counts (placeOf base i) (getD (g .lengths) i 0) in
+    omega arith)
+
+one-short : (names counts : List ℕ) (base : ℕ) (g : Agreement) (L : Log) → gradeOne names counts base g ≡ some L → length L ≤ mostBlocks
+one-short names counts base g L e =
+    either (g .hastwo)
+    (λ t. graded-short names counts base g (g .two) L (subst (λ (b : Bool). pick b (gradeAmong names counts base g (g .two)) none ≡ some L) t e))
+    (λ t. absurd (Option·none-ne-some L (rw t at e)))
+
+lock-short : (s : State) (v : ℕ) (L : Log) → lockOf s v ≡ some L → length L ≤ mostBlocks
+unfolding lockOf
+lock-short s zero L e = subst (λ (M : Log). length M ≤ mostBlocks) (Option·some-injective [] L e) (omega arith)
+lock-short s (suc u) L e = one-short (s .lent .names) (s .lent .counts) (logsPlace u) (agreementOf (s .bench) u) L e
+
+-- what is kept is one proposal, or not
+same-only : (a b : Proposed) → only a ≡ only b → a ≡ b
+same-only a b e = cc
+
+differing-apart : {A : Type 0} (a : Proposed) → differing ≡ only a → A
+differing-apart a e = let z : _≡_ {A = ℕ} 0 1 = cc in absurd (omega arith)
+
+nothing-apart : {A : Type 0} (a : Proposed) → nothing ≡ only a → A
+nothing-apart a e = let z : _≡_ {A = ℕ} 0 1 = cc in absurd (omega arith)
+
+kept-length : (names counts : List ℕ) (base : ℕ) (g : Proposals) (i : ℕ) (a : Proposed) → keptProposal names counts base g i ≡ only a
+    → length (a .log) ≡ getD (g .lengths) i 0
+unfolding keptProposal
+kept-length names counts base g i a e =
+    let own : Proposed = record { log = filedLog names counts base (g .lengths) i; priority = getD (g .priorities) i 0 } in
+    either (member (g .aside) i) (λ t. differing-apart a (rw t at e)) (λ t.
+    either (member (g .filed) i)
+    (λ f. ap (λ (b : Proposed). length (b .log)) (sym (same-only own a (rw (t, f) at e))) ∙ length-at names counts (placeOf base i) (getD (g .lengths) i 0))
+    (λ f. nothing-apart a (rw (t, f) at e)))
+
+-- the proposals of view v, in a record within its limits
+module _ (b : Bench) (e : beyondProposals (b .n) (b .proposals) ≡ false) where
+  proposed-short : (v i : ℕ) → i < mostSenders → getD (proposalsOf b v .lengths) i 0 ≤ mostBlocks
+  unfolding proposalsOf beyondProposals
+  proposed-short v i h =
+      let none-bad = or-false (ltb lastView (b .proposals .view)) (anyPlace (badProposer (b .n) (b .proposals))) e .1 in
+      let one = or-false (tooLong (b .proposals .lengths) i) _ (no-place (badProposer (b .n) (b .proposals)) none-bad i h) .0 in
+      either (eqb (b .proposals .view) v)
+      (λ t. rw t (ltb-false mostBlocks (getD (b .proposals .lengths) i 0) one))
+      (λ t. rw t (let z = getD-all {A = ℕ} mostSenders i 0 in omega arith))
+
+within-proposals : (b : Bench) → beyond b ≡ false → beyondProposals (b .n) (b .proposals) ≡ false
+unfolding beyond
+within-proposals b e =
+    let c = or-false (outOfRange (b .n) (b .own)) _ e .1 in
+    let d = or-false (ltb (lastBeat + 1) (b .next)) _ c .1 in
+    let f = or-false (ltb mostBlocks (b .decided)) _ d .1 in
+    let g = or-false (beyondAgreement (b .n) (b .even)) _ f .1 in
+    or-false (beyondAgreement (b .n) (b .odd)) _ g .1
+
+-- ---- so has what is made
+
+abbrev Short : Option Meaning → Type 0
+Short none = Unit {0}
+Short (some m) = length (logOf m) ≤ mostBlocks
+
+module _ (own v : ℕ) where
+  propose-short : (block : Block) (priority : ℕ) (o : Option Log) → Short (propose own v block priority o)
+  unfolding propose
+  propose-short block priority none = tt
+  propose-short block priority (some C) =
+      either (mayPropose block C)
+      (λ e.
+      let t = ltb-true (length C) mostBlocks (and-eq-true-iff (not (eqb (block .name) 0)) (ltb (length C) mostBlocks) .0 e .1) in
+      let l = length-append C (block ∷ []) in
+      rw e (omega arith))
+      (λ e. rw e tt)
+
+  vote-short : (choose : Log → Log) (o : Option Log) → ((L : Log) → o ≡ some L → length (choose L) ≤ mostBlocks) → Short (vote own v choose o)
+  unfolding vote
+  vote-short choose none h = tt
+  vote-short choose (some L) h = h L refl
+
+  in-views-short : (o : Option Meaning) → Short o → Short (inViews v o)
+  in-views-short o h = either (isView v) (λ t. rw t h) (λ t. rw t tt)
+
+module _ (s : State) (e : beyondProposals (s .bench .n) (s .bench .proposals) ≡ false) where
+  -- the vote is the lock, or a proposal
+  chosen-short : (v : ℕ) (L : Log) → length L ≤ mostBlocks → length (seenOf s v .choose L) ≤ mostBlocks
+  chosen-short v L h =
+      let kept = keptProposal (s .lent .names) (s .lent .counts) proposalsPlace (proposalsOf (s .bench) v) in
+      elim (vote-from mostSenders kept L) [
+        | inl q ↦ rw q h
+        | inr t ↦
+            let k = kept-length (s .lent .names) (s .lent .counts) proposalsPlace (proposalsOf (s .bench) v) (t .sender) (t .proposal) (t .its) in
+            let w = proposed-short (s .bench) e v (t .sender) (t .below) in
+            rw (t .voted) (omega arith)
+      ]
+
+  makes-short : (own v : ℕ) (block : Block) (priority : ℕ) (a : Act) → Short (makes own v block priority (seenOf s v) a)
+  unfolding makes
+  makes-short own v block priority proposing =
+      in-views-short own v (propose own v block priority (seenOf s v .candidate)) (propose-short own v block priority (seenOf s v .candidate))
+  makes-short own v block priority voting =
+      in-views-short own v (vote own v (seenOf s v .choose) (lockOf s v))
+      (vote-short own v (seenOf s v .choose) (lockOf s v) (λ L q. chosen-short v L (lock-short s v L q)))
+  makes-short own v block priority deciding = tt
+  makes-short own v block priority snapping = tt
+
+-- and a buffer that is long enough has room for it
+abbrev Fits : List ℕ → Option Meaning → Type 0
+Fits out none = Unit {0}
+Fits out (some m) = (length (logOf m) ≤ mostBlocks) × (length (bytesOf m) ≤ length out)
+
+fits : (out : List ℕ) (o : Option Meaning) → Short o → mostBytes ≤ length out → Fits out o
+fits out none h r = tt
+fits out (some m) h r = (h, let l = length-message m in omega arith)
+
+-- ---- the Act
+
+module _ (s : State) (block : Block) (priority : ℕ) (out : List ℕ) where
+  -- one equation, refused Acts included
+  pub act-out : actOf s block priority out .answer .out ≡ outAfter (madeIn (actOf s block priority out .answer .reply)) out
+  unfolding actOf actedOf
+  act-out =
+      either (beyond (s .bench)) (λ e. rw e) (λ e.
+      either (shortLists (s .lent)) (λ f. rw (e, f)) (λ f.
+      either (ltb (length out) mostBytes) (λ g. rw (e, f, g)) (λ g.
+      either (idle (s .bench)) (λ h. rw (e, f, g, h)) (λ h. rw (e, f, g, h)))))
+
+  made-fits : Fits out (madeIn (actOf s block priority out .answer .reply))
+  unfolding actOf actedOf
+  made-fits =
+      either (beyond (s .bench)) (λ e. rw e tt) (λ e.
+      either (shortLists (s .lent)) (λ f. rw (e, f) tt) (λ f.
+      either (ltb (length out) mostBytes) (λ g. rw (e, f, g) tt) (λ g.
+      either (idle (s .bench)) (λ h. rw (e, f, g, h) tt) (λ h.
+      let v = viewOf (beatOf (s .bench)) in
+      let a = actAt (placeIn (beatOf (s .bench))) in
+      rw (e, f, g, h) (fits out (makes (s .bench .own) v block priority (seenOf (over s) v) a)
+      (makes-short (over s) (within-proposals (s .bench) e) (s .bench .own) v block priority a)
+      (ltb-false (length out) mostBytes g))))))
+
+  -- nothing made, refused or not: the buffer handed in
+  pub out-kept : madeIn (actOf s block priority out .answer .reply) ≡ none → actOf s block priority out .answer .out ≡ out
+  out-kept e = act-out ∙ ap (λ (o : Option Meaning). outAfter o out) e
+
+  pub out-none : actOf s block priority out .answer .reply ≡ acted none → actOf s block priority out .answer .out ≡ out
+  out-none e = out-kept (ap madeIn e)
+
+  module _ (m : Meaning) (e : actOf s block priority out .answer .reply ≡ acted (some m)) where
+    its : Fits out (some m)
+    its = subst (λ (r : Reply). Fits out (madeIn r)) e made-fits
+
+    pub made-short : length (logOf m) ≤ mostBlocks
+    made-short = its .0
+
+    -- a message: at the front, and the rest as handed in
+    pub out-made : actOf s block priority out .answer .out ≡ bytesOf m ++ drop (length (bytesOf m)) out
+    out-made = act-out ∙ ap (λ (r : Reply). outAfter (madeIn r) out) e ∙ put-front out (bytesOf m) (its .1)
