@@ -12,6 +12,7 @@ pub mod Slots
 pub mod ReadRefusals
 pub mod Refusals
 pub mod Buffer
+pub mod Never
 -- The tie between record and history, kept by every call:
 pub mod Ties
 pub mod Filling
