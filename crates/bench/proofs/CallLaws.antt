@@ -1,7 +1,7 @@
 -- Laws of one call by the history: what it takes not to be refused, the word answered, what filing leaves, and what an accepted call gives.
 -- Assumes nothing.
 use Prim.Native.Nat.{ℕ, _≤_}
-use mathlib.Core.Path.{_≡_, refl, sym, ap, _∙_}
+use mathlib.Core.Path.{_≡_, refl, sym, ap, subst, _∙_}
 use mathlib.Core.Logic.{_⊎_, inl, inr}
 use mathlib.Core.List.{List, _∷_, List·Memᴰ as Mem, List·Memᴰ·tail}
 use mathlib.Core.Option.{Option, some, none, Option·some-ne-none}
@@ -77,6 +77,15 @@ receive-ok n p bytes e =
     go (unread k) q h g = absurd (Option·some-ne-none k h)
     go (means m) q h g =
         record { message = m; read = q; gathering = g; inWindow = not-false (openTo m (beatNow p)) (pick-none (not (openTo m (beatNow p))) 21 none h .0) }
+
+means-injective : (m k : Meaning) → means m ≡ means k → m ≡ k
+means-injective m k e = cc
+
+-- the message read was open to its kind
+pub receive-open : (n : ℕ) (p : History) (bytes : List ℕ) (m : Meaning) → refusal n p (receive bytes) ≡ none → readOf n bytes ≡ means m → openTo m (beatNow p) ≡ true
+receive-open n p bytes m ok e =
+    let r = receive-ok n p bytes ok in
+    subst (λ (k : Meaning). openTo k (beatNow p) ≡ true) (means-injective (r .message) m (sym (r .read) ∙ e)) (r .inWindow)
 
 pub receive-refusal : (n : ℕ) (p : History) (bytes : List ℕ) (m : Meaning)
     → readOf n bytes ≡ means m → p .gathering ≡ true → openTo m (beatNow p) ≡ true → refusal n p (receive bytes) ≡ none

@@ -78,6 +78,13 @@ module _ (n own : ℕ) (s : State) (p : History) (t : Tie n own s p) where
         let y = t .roomy .counts in
         log-stored (s .lent .names) (s .lent .counts) decidedPlace L (omega arith) (omega arith)
 
+    -- the state in which L has replaced what stood
+    abbrev replaced : State
+    replaced = record {
+      bench = withDecided (withGatheringOver (s .bench)) (length L);
+      lent = record { names = put (s .lent .names) decidedPlace (namesOf L); counts = put (s .lent .counts) decidedPlace (countsOf L) };
+    }
+
     stands : decidedLog s ≡ standIn (p .actions) .log
     stands = ap (λ (x : Stand). x .log) (t .stand-is)
 
@@ -93,7 +100,7 @@ module _ (n own : ℕ) (s : State) (p : History) (t : Tie n own s p) where
         let e′ : isPrefix (standIn (p .actions) .log) L ≡ true = ap (λ (x : Log). isPrefix x L) (sym stands) ∙ e in
         let a = there in
         let m = marked in
-        let st : standing (record { bench = withDecided (withGatheringOver (s .bench)) (length L); lent = record { names = put (s .lent .names) decidedPlace (namesOf L); counts = put (s .lent .counts) decidedPlace (countsOf L) } }) ≡ record { log = L; parted = standIn (p .actions) .parted } =
+        let st : standing replaced ≡ record { log = L; parted = standIn (p .actions) .parted } =
         λ i. record { log = a i; parted = m i } in
         let z : settle (standIn (p .actions)) (some L) ≡ record { log = L; parted = standIn (p .actions) .parted } = rw e′ in
         rw e (record {

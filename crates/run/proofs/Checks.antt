@@ -14,16 +14,16 @@ use Rattle.message.proofs.LogLaws.{sameLog-iff}
 use Rattle.agreement.specs.Sets.{count}
 use Rattle.agreement.specs.Filing.{Word, first, second, known}
 use Rattle.bench.specs.Calendar.{viewBeat, closeBeat}
-use Rattle.bench.specs.Calls.{Call, begin, receive, act, openTo}
+use Rattle.bench.specs.Calls.{Call, begin, receive, act}
 use Rattle.bench.specs.History.{History, ActRecord, fresh, beatNow, refusal, file, wordFor, accepted, madeBy, step, after, afterFrom}
-use Rattle.bench.proofs.CallLaws.{receive-ok, taken-reply, took-injective, accepted-receive, recordOf}
+use Rattle.bench.proofs.CallLaws.{receive-ok, taken-reply, took-injective, accepted-receive, recordOf, receive-open}
 use Rattle.run.specs.Places.{Begins, MakesAfter, Sends, sendsMade, sendsOn, With}
 use Rattle.run.specs.Premises.{Volume, Delivery, Numbers, Majority, counted, breaker}
 use Rattle.run.proofs.ListTests.{all, all-use, any, any-use, allBelow, below-use, implies, implies-use}
 use Rattle.run.proofs.Starts.{after-append, after-ok}
 use Rattle.run.proofs.Beats.{UpTo, upTo-now, heard-grow, act-recorded, beat-is}
 use Rattle.run.proofs.HeardFrom.{taken, made, heard-from, made-vote}
-use Rattle.run.proofs.ActPlaces.{ActPlace, act-place}
+use Rattle.run.proofs.ActPlaces.{act-place}
 use Rattle.run.proofs.Taking.{upTo-from}
 
 -- ---- what a bench makes or passes on, as a list
@@ -129,22 +129,17 @@ deliveredb W =
 not-eqb : (a b : ℕ) → (a ≡ b → ⊥) → not (eqb a b) ≡ true
 not-eqb a b h = rw (ne-eqb a b h)
 
-means-injective : (m k : Meaning) → means m ≡ means k → m ≡ k
-means-injective m k e = cc
-
 -- a LOG heard that is not a bench's own is with it
 heard-with : (n own : ℕ) (pre : List Call) (m : Content) → Mem m (after n own pre .heard) → (m .sender ≡ own → ⊥) → With n own pre m
 heard-with n own pre m i o = elim (heard-from n own pre pre [] (sym (append-nil pre)) m i) [
-  | taken start c t u ↦ let r = receive-ok n (after n own start) (t .bytes) (t .ok) in
-      let f : r .message ≡ logMessage m = means-injective (r .message) (logMessage m) (sym (r .read) ∙ t .read) in
-      record {
-        before = start;
-        bytes = t .bytes;
-        place = t .place;
-        read = t .read;
-        gathering = r .gathering;
-        inWindow = subst (λ (x : Meaning). openTo x (beatNow (after n own start)) ≡ true) f (r .inWindow);
-      }
+  | taken start c t u ↦ record {
+    before = start;
+    bytes = t .bytes;
+    place = t .place;
+    read = t .read;
+    gathering = receive-ok n (after n own start) (t .bytes) (t .ok) .gathering;
+    inWindow = receive-open n (after n own start) (t .bytes) (logMessage m) (t .ok) (t .read);
+  }
   | made start c t u ↦ absurd (o (made-vote n own (after n own start) (t .acts .block) (t .acts .priority) m (t .made) .sender))
 ]
 
@@ -186,11 +181,8 @@ act-made : (n own : ℕ) (cs : List Call) (m : Content) → actMade n own cs m �
 unfolding actMade
 act-made n own cs m e =
     let z = any-use (λ (d : ActRecord). madeIt m (d .made)) (after n own cs .actions) e in
-    at-place (z .0) (act-place n own cs cs [] (sym (append-nil cs)) (z .0) (z .1)) (z .2)
-  where
-    at-place : (d : ActRecord) → ActPlace n own cs d → madeIt m (d .made) ≡ true → (pre : List Call) × (b : ℕ) × MakesAfter n own cs pre b m
-    at-place d x q =
-        (x .pre, d .beat, record { acts = x .acts; made = sym (x .made) ∙ madeIt-eq m (d .made) q })
+    let x = act-place n own cs cs [] (sym (append-nil cs)) (z .0) (z .1) in
+    (x .pre, z .0 .beat, record { acts = x .acts; made = sym (x .made) ∙ madeIt-eq m (z .0 .made) (z .2) })
 
 unfoldable pub numberedb : Volume → Bool
 numberedb W =

@@ -3,7 +3,7 @@
 use Prim.Native.Nat.{ℕ, _≤_, _<_}
 use native.Mathlib.Omega.{arith}
 use mathlib.Core.Path.{_≡_, subst}
-use mathlib.Core.List.{List, [], _∷_, _++_}
+use mathlib.Core.List.{List, _∷_}
 use mathlib.Core.Option.{none}
 use mathlib.Core.Bool.{true}
 use Rattle.message.specs.Message.{Content, logMessage, bytesOf, means, readOf, Writable}
@@ -16,14 +16,11 @@ use Rattle.bench.specs.History.{History, beatNow, refusal, after}
 use Rattle.bench.proofs.CallLaws.{receive-refusal}
 use Rattle.bench.proofs.GoodHistory.{after-good, made-good}
 use Rattle.run.specs.Places.{At, Sends, sendsMade, sendsOn}
-
-typed-parts : (pre : List Call) (c : Call) (post : List Call) → AllTyped (pre ++ (c ∷ post)) → AllTyped pre × Typed c
-typed-parts [] c post t = (tt, t .0)
-typed-parts (x ∷ xs) c post t = let y = typed-parts xs c post (t .1) in ((t .0, y .0), y .1)
+use Rattle.run.proofs.Starts.{typed-start, typed-next}
 
 module _ (n own : ℕ) (cs : List Call) (lo : own < n) (t : AllTyped cs) where
   typed-at : (pre : List Call) (c : Call) → At cs pre c → AllTyped pre × Typed c
-  typed-at pre c at = typed-parts pre c (at .0) (subst AllTyped (at .1) t)
+  typed-at pre c at = let u = subst AllTyped (at .1) t in (typed-start pre (c ∷ at .0) u, typed-next pre c (at .0) u)
 
   sent-writable : (b : ℕ) (m : Content) → Sends n own cs b m → Writable n m
   sent-writable b m (sendsMade pre x) =

@@ -13,14 +13,11 @@ use Rattle.bench.specs.ByRecord.{standing}
 use Rattle.run.specs.Places.{Decides, LongestDecided}
 use Rattle.run.specs.Premises.{Volume, Keeps, Delivery, Numbers, Majority}
 use Rattle.run.specs.Demand.{Way, Machine, call, Event, callsIn, runs, answers, OpenedAs, OpensRightly, Faithful, Claim, Demand3}
+use Rattle.run.proofs.Starts.{typed-start}
 use Rattle.run.proofs.Votes.{no-conflict}
 use Rattle.run.proofs.Decided.{decides-start, stands-longest}
 
 -- ---- agreement follows from what each bench does alone
-
-typed-start : (pre post : List Call) → AllTyped (pre ++ post) → AllTyped pre
-typed-start [] post t = tt
-typed-start (c ∷ cs) post t = (t .0, typed-start cs post (t .1))
 
 callsIn-append : (pre post : List Event) → callsIn (pre ++ post) ≡ callsIn pre ++ callsIn post
 unfolding callsIn

@@ -4,7 +4,7 @@ use mathlib.Core.Path.{_≡_, refl, sym, subst, _∙_}
 use mathlib.Core.Logic.{inl, inr}
 use mathlib.Core.List.{List, [], _∷_, _++_, append-nil, append-assoc}
 use mathlib.Core.Option.{none}
-use Rattle.bench.specs.Calls.{Call}
+use Rattle.bench.specs.Calls.{Call, Typed, AllTyped}
 use Rattle.bench.specs.History.{History, fresh, refusal, accepted, step, after, afterFrom}
 use Rattle.bench.proofs.CallLaws.{step-cases, step-ok}
 use Rattle.run.specs.Places.{At}
@@ -52,3 +52,13 @@ module _ (n own : ℕ) where
         | inl same ↦ subst P (sym same) h
         | inr ok ↦ subst P (sym (ok .1)) (s pre c (post, e′) (ok .0) h)
       ]))
+
+-- ---- lists of the code's types: a start of one, and the call after it
+
+pub typed-start : (pre post : List Call) → AllTyped (pre ++ post) → AllTyped pre
+typed-start [] post t = tt
+typed-start (c ∷ cs) post t = (t .0, typed-start cs post (t .1))
+
+pub typed-next : (pre : List Call) (c : Call) (post : List Call) → AllTyped (pre ++ (c ∷ post)) → Typed c
+typed-next [] c post t = t .0
+typed-next (x ∷ xs) c post t = typed-next xs c post (t .1)

@@ -6,13 +6,13 @@ use mathlib.Core.Path.{_≡_, sym, ap, subst, _∙_}
 use mathlib.Core.Logic.{inl, inr}
 use mathlib.Core.List.{List, [], _∷_, _++_, append-assoc, List·Memᴰ as Mem}
 use mathlib.Core.Option.{some, none, Option·none-ne-some, Option·some-injective}
-use mathlib.Core.Bool.{true, and-eq-true-iff}
+use mathlib.Core.Bool.{and-eq-true-iff}
 use borrow.Author.Tests.{leb-true}
-use Rattle.message.specs.Message.{Content, Meaning, logMessage, means}
-use Rattle.bench.specs.Calendar.{lastBeat, inputBeat, closeBeat, logWindow}
-use Rattle.bench.specs.Calls.{Call, begin, receive, act, openTo}
+use Rattle.message.specs.Message.{Content, logMessage}
+use Rattle.bench.specs.Calendar.{lastBeat, inputBeat, closeBeat}
+use Rattle.bench.specs.Calls.{Call, begin, receive, act}
 use Rattle.bench.specs.History.{History, beatNow, refusal, accepted, step, after, afterFrom}
-use Rattle.bench.proofs.CallLaws.{step-cases, begin-ok, act-ok, receive-ok, receive-refusal}
+use Rattle.bench.proofs.CallLaws.{step-cases, begin-ok, act-ok, receive-open, receive-refusal}
 use Rattle.run.specs.Places.{At, Begins, ActsAfter, MakesAfter, TakesAfter, With}
 use Rattle.run.proofs.Starts.{after-append, along}
 use Rattle.run.proofs.Beats.{UpTo, upTo-now, upTo-le, upTo-step, receive-last, act-last, beat-is, has-beat}
@@ -36,17 +36,11 @@ module _ (n own : ℕ) (cs : List Call) where
         tookMade start c t (omega arith)
   ]
 
-  means-injective : (m k : Meaning) → means m ≡ means k → m ≡ k
-  means-injective m k e = cc
-
   -- a LOG is taken within its window
   pub taken-window : (pre : List Call) (b : ℕ) (h : Content) → TakesAfter n own cs pre b h → (inputBeat (h .view) ≤ b) × (b ≤ closeBeat (h .view))
   taken-window pre b h t =
       let p = after n own pre in
-      let r = receive-ok n p (t .bytes) (t .ok) in
-      let e = means-injective (r .message) (logMessage h) (sym (r .read) ∙ t .read) in
-      let w : logWindow (h .view) (beatNow p) ≡ true = subst (λ (m : Meaning). openTo m (beatNow p) ≡ true) e (r .inWindow) in
-      let x = and-eq-true-iff _ _ .0 w in
+      let x = and-eq-true-iff _ _ .0 (receive-open n p (t .bytes) (logMessage h) (t .ok) (t .read)) in
       let k = beat-is p b (t .beat) in
       let l = leb-true (inputBeat (h .view)) (beatNow p) (x .0) in
       let u = leb-true (beatNow p) (closeBeat (h .view)) (x .1) in

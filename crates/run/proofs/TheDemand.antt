@@ -3,17 +3,17 @@ use Prim.Native.Nat.{ℕ}
 use native.Mathlib.Omega.{arith}
 use mathlib.Core.Bool.{true, false}
 use mathlib.Core.Option.{some, none, Option·none-ne-some, Option·some-injective}
-use mathlib.Core.Path.{_≡_, refl, sym, ap, subst}
+use mathlib.Core.Path.{_≡_, refl, sym, ap, subst, _∙_}
 use Rattle.message.proofs.TestLaws.{either}
 use Rattle.bench.specs.Layout.{Lent, outOfRange, shortLists}
 use Rattle.bench.specs.Calls.{Call, begin, receive, act, refused, done, State, Opening, Typed}
 use Rattle.bench.specs.History.{History, fresh, openRefusal}
 use Rattle.bench.specs.Record.{freshBench}
-use Rattle.bench.specs.ByRecord.{openOf}
+use Rattle.bench.specs.ByRecord.{notOpened, openOf}
 use Rattle.bench.specs.declared.Bench.{Bench}
 use Rattle.bench.proofs.Ties.{Tie}
 use Rattle.bench.proofs.CallTies.{Agrees, begin-agrees, receive-agrees, open-tie}
-use Rattle.bench.proofs.Refusals.{begin-lent}
+use Rattle.bench.proofs.Refusals.{open-7, open-8, open-done, begin-lent}
 use Rattle.bench.proofs.Acting.{act-agrees}
 use Rattle.run.specs.Demand.{Way, call, OpensRightly, OpenedAs, Demand3}
 use Rattle.run.specs.TheBench.{theBench}
@@ -32,31 +32,31 @@ module _ (n own : ℕ) (l : Lent) where
   open-causes f g h = either (outOfRange n own) f (λ e. either (shortLists l) (g e) (h e))
 
   refuses : (k : ℕ) → openRefusal n own l ≡ some k → openOf n own l .reply ≡ refused k
-  unfolding openRefusal openOf
+  unfolding openRefusal
   refuses k r =
       open-causes
-      (λ e. rw e (ap refused (Option·some-injective _ _ (rw e at r))))
-      (λ e f. rw (e, f) (ap refused (Option·some-injective _ _ (rw (e, f) at r))))
+      (λ e. rw (open-7 n own l e) (ap refused (Option·some-injective _ _ (rw e at r))))
+      (λ e f. rw (open-8 n own l e f) (ap refused (Option·some-injective _ _ (rw (e, f) at r))))
       (λ e f. absurd (Option·none-ne-some _ (rw (e, f) at r)))
 
   opens : openRefusal n own l ≡ none → (openOf n own l .reply ≡ done) × (openOf n own l .bench .decided ≡ 0) × (openOf n own l .bench .parted ≡ false)
-  unfolding openRefusal openOf
+  unfolding openRefusal
   opens r =
       open-causes
       (λ e. absurd (Option·none-ne-some _ (sym (rw e at r))))
       (λ e f. absurd (Option·none-ne-some _ (sym (rw (e, f) at r))))
-      (λ e f. rw (e, f) (refl, refl, refl))
+      (λ e f. rw (open-done n own l e f) (refl, refl, refl))
 
   -- a bench that Open gave is fresh, and 7 and 8 do not hold
   given-fresh : (b : Bench) → openOf n own l ≡ record { reply = done; bench = b }
       → (outOfRange n own ≡ false) × (shortLists l ≡ false) × (freshBench n own ≡ b)
-  unfolding openOf
   given-fresh b g =
-      let no : (k : ℕ) → refused k ≡ done → ⊥ = λ k e. let z : _≡_ {A = ℕ} 0 1 = cc in absurd (omega arith) in
+      let no : (k : ℕ) → openOf n own l ≡ notOpened k → ⊥ = λ k e.
+      let d : refused k ≡ done = ap (λ (o : Opening). o .reply) (sym e ∙ g) in let z : _≡_ {A = ℕ} 0 1 = cc in absurd (omega arith) in
       open-causes
-      (λ e. absurd (no 7 (ap (λ (o : Opening). o .reply) (rw e at g))))
-      (λ e f. absurd (no 8 (ap (λ (o : Opening). o .reply) (rw (e, f) at g))))
-      (λ e f. (e, f, ap (λ (o : Opening). o .bench) (rw (e, f) at g)))
+      (λ e. absurd (no 7 (open-7 n own l e)))
+      (λ e f. absurd (no 8 (open-8 n own l e f)))
+      (λ e f. (e, f, ap (λ (o : Opening). o .bench) (sym (open-done n own l e f) ∙ g)))
 
 opens-rightly : OpensRightly theBench
 opens-rightly = record { refuses = λ n own l k t e. refuses n own l k e; opens = λ n own l t e. opens n own l e }
