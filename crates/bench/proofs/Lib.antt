@@ -24,10 +24,15 @@ pub mod SeenTies
 pub mod Settling
 pub mod ActTies
 pub mod Acting
+-- What the code finds, case by case:
+pub mod RecordCases
+pub mod LimitCases
+pub mod Replies
+pub mod CallCases
 -- Worked examples:
 pub mod Odd
 pub mod Order
 pub mod Windows
 pub mod Sample
-pub mod Made
+pub mod MadeTable
 pub mod Served

@@ -100,14 +100,19 @@ proposalOutcome s f = record {
   held = record { bench = withProposals (s .bench) (f .proposals); lent = record { names = f .names; counts = f .counts } };
 }
 
--- A message, with its bytes, in the agreement or among the proposals of its view: one rule for messages received and for one's own.
+-- a LOG of view v from sender i, with its bytes, in that view's agreement
+abbrev pub fileLog : State → List ℕ → ℕ → ℕ → Outcome
+fileLog s bytes v i = logOutcome s v (fileOf (agreementOf (s .bench) v) (s .lent .names) (s .lent .counts) (logsPlace v) bytes i)
+
+-- a PROPOSAL among that view's proposals
+abbrev pub fileProposal : State → List ℕ → ℕ → ℕ → ℕ → Outcome
+fileProposal s bytes v i priority =
+    proposalOutcome s (fileProposalOf (proposalsOf (s .bench) v) (s .lent .names) (s .lent .counts) proposalsPlace bytes i priority)
+
+-- by its kind: one rule for messages received and for one's own
 unfoldable pub fileMessage : State → List ℕ → Meaning → Outcome
-fileMessage s bytes (logMessage m) =
-    logOutcome s (m .view)
-    (fileOf (agreementOf (s .bench) (m .view)) (s .lent .names) (s .lent .counts) (logsPlace (m .view)) bytes (m .sender))
-fileMessage s bytes (proposalMessage m priority) =
-    proposalOutcome s
-    (fileProposalOf (proposalsOf (s .bench) (m .view)) (s .lent .names) (s .lent .counts) proposalsPlace bytes (m .sender) priority)
+fileMessage s bytes (logMessage m) = fileLog s bytes (m .view) (m .sender)
+fileMessage s bytes (proposalMessage m priority) = fileProposal s bytes (m .view) (m .sender) priority
 
 -- ---- Receive
 

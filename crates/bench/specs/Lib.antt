@@ -9,3 +9,6 @@ pub mod History
 -- One bench by its record and the lent lists, which is what the code does:
 pub mod Record
 pub mod ByRecord
+-- What the code of the calls promises, and what its inner functions ask:
+pub mod Answers
+pub mod Steps

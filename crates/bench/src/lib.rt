@@ -1,7 +1,38 @@
-// One bench: its record. Names and counts of blocks stand in two lent lists beside it.
-// The code of the four calls is still to come; what each gives is defined in specs/ByRecord.antt.
+// One bench: its record and its calls. Names and counts of blocks stand in two lent lists beside it. What each call gives is
+// defined in specs/ByRecord.antt, for every record, list, message and buffer; a refused call changes nothing. The code of
+// Act is still to come.
+mod beginning;
+mod calendar;
+mod filing;
+mod limits;
+mod record;
+
+ghost use Rattle.bench.specs.ByRecord.{openOf, beginOf, receiveOf};
+ghost use Rattle.bench.specs.Answers.{lentAs, stateOf, Opens, Begins, Receives};
 use agreement::Agreement;
 use agreement::Proposals;
+use beginning::begun;
+use filing::take;
+use limits::is_beyond;
+use limits::is_out_of_range;
+use limits::is_short;
+use record::fresh;
+use record::is_idle;
+
+// The numbers of specs/Layout.antt and specs/Calendar.antt, and the blocks of a log at the most.
+const MOST_SENDERS: usize = 32;
+
+const MOST_BLOCKS: usize = 64;
+
+const SPAN: u32 = 2048;
+
+const PROPOSALS_PLACE: u32 = 4096;
+
+const LEAST_LENT: usize = 6208;
+
+const LAST_VIEW: u32 = 1000000;
+
+const LAST_BEAT: u32 = 4000006;
 
 // A bench is a validator. Its record:
 pub struct Bench {
@@ -19,4 +50,110 @@ pub struct Bench {
     // the blocks of the decided log, and whether a decision conflicted with it
     pub decided: u8,
     pub parted: bool,
+}
+
+// The answer of Open and of Begin; each refusal is by its number.
+pub enum Start {
+    Done,
+    Refused(u8),
+}
+
+// The answer of Receive.
+pub enum Taken {
+    First,
+    Second,
+    Known,
+    Refused(u8),
+}
+
+// An answer, and the record afterwards.
+pub struct Started {
+    pub answer: Start,
+    pub bench: Bench,
+}
+
+pub struct Received {
+    pub answer: Taken,
+    pub bench: Bench,
+}
+
+// Open: a fresh bench. Refused: 7, 8; the record beside a refusal is of no bench.
+pub fn open(n: u8, own: u8, names: &[u64], counts: &[u16]) -> Started
+    ensures { λ r. ⌜ Opens (openOf n own (lentAs (now (names .entry)) (now (counts .entry)))) r ⌝ }
+{
+    if is_out_of_range(n, own) {
+        return Started {
+            answer: Start::Refused(7),
+            bench: fresh(0, 0),
+        };
+    }
+    if is_short(names, counts) {
+        return Started {
+            answer: Start::Refused(8),
+            bench: fresh(0, 0),
+        };
+    }
+    Started {
+        answer: Start::Done,
+        bench: fresh(n, own),
+    }
+}
+
+// Begin: the gathering of a beat starts. Refused: 9, 8, 10, 20.
+pub fn begin(bench: Bench, names: &[u64], counts: &[u16], beat: u32) -> Started
+    ensures { λ r. ⌜ Begins (beginOf (stateOf bench (now (names .entry)) (now (counts .entry))) beat) r (now (names .entry)) (now (counts .entry)) ⌝ }
+{
+    if is_beyond(bench) {
+        return Started {
+            answer: Start::Refused(9),
+            bench,
+        };
+    }
+    if is_short(names, counts) {
+        return Started {
+            answer: Start::Refused(8),
+            bench,
+        };
+    }
+    if LAST_BEAT < beat {
+        return Started {
+            answer: Start::Refused(10),
+            bench,
+        };
+    }
+    if beat < bench.next {
+        return Started {
+            answer: Start::Refused(20),
+            bench,
+        };
+    }
+    Started {
+        answer: Start::Done,
+        bench: begun(bench, beat),
+    }
+}
+
+// Receive: a message is filed. Refused: 9, 8, 22, 1 to 6, 21.
+pub fn receive(bench: Bench, names: &mut [u64], counts: &mut [u16], message: &[u8]) -> Received
+    ensures { λ r. ⌜ Receives (receiveOf (stateOf bench (now (names .entry)) (now (counts .entry))) (now (message .entry))) r (now (names .exit)) (now (counts .exit)) ⌝ }
+{
+    if is_beyond(bench) {
+        return Received {
+            answer: Taken::Refused(9),
+            bench,
+        };
+    }
+    if is_short(names, counts) {
+        return Received {
+            answer: Taken::Refused(8),
+            bench,
+        };
+    }
+    if is_idle(bench) {
+        return Received {
+            answer: Taken::Refused(22),
+            bench,
+        };
+    }
+    take(bench, names, counts, message)
 }

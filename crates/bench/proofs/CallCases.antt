@@ -1,0 +1,180 @@
+-- The four calls, case by case, as the code finds them: what was tested, and so what is answered and left. Assumes nothing.
+use Prim.Native.Nat.{ℕ, _<_, _≤_}
+use mathlib.Core.List.{List}
+use mathlib.Core.Bool.{Bool, true, false}
+use mathlib.Core.Path.{_≡_, refl, ap, _∙_}
+use borrow.Author.Tests.{lt-ltb, le-ltb}
+use Rattle.message.specs.Message.{means, logMessage, proposalMessage, contentOf, readOf, readingOf}
+use Rattle.message.specs.declared.Head.{Head}
+use Rattle.message.specs.declared.Message.{Message}
+use Rattle.message.specs.declared.Message.the-variants as answers
+use Rattle.message.proofs.Readings.{read-as-log, read-as-proposal, read-as-refused}
+use Rattle.agreement.specs.Filing.{Files, fileOf, wordOf}
+use Rattle.agreement.specs.Proposals.{FilesProposal, fileProposalOf}
+use Rattle.agreement.specs.declared.Agreement.{Agreement}
+use Rattle.agreement.specs.declared.Answer.{Answer}
+use Rattle.agreement.specs.declared.Answer.the-variants as words
+use Rattle.agreement.specs.declared.Filed.{Filed}
+use Rattle.agreement.specs.declared.FiledProposal.{FiledProposal}
+use Rattle.agreement.specs.declared.Proposals.{Proposals}
+use Rattle.bench.specs.Layout.{shortLists, outOfRange, logsPlace, proposalsPlace}
+use Rattle.bench.specs.Calendar.{lastBeat, logWindow, proposalWindow}
+use Rattle.bench.specs.Calls.{took}
+use Rattle.bench.specs.Record.{freshBench, agreementOf, proposalsOf, beatOf, idle, beyond, withAgreement, withProposals}
+use Rattle.bench.specs.ByRecord.{openOf, begunBench, beginOf, fileLog, fileProposal, fileMessage, taken, receives, receiveOf}
+use Rattle.bench.specs.Answers.{lentAs, stateOf, startReply, takenReply, Opens, Begins, Receives}
+use Rattle.bench.specs.declared.Bench.{Bench}
+use Rattle.bench.specs.declared.Start.the-variants as starts
+use Rattle.bench.specs.declared.Taken.{Taken}
+use Rattle.bench.specs.declared.Taken.the-variants as takings
+use Rattle.bench.specs.declared.Received.{Received}
+
+-- ---- Open
+
+module _ (n own : ℕ) (names counts : List ℕ) (b : Bench) (r : Bool) (e : r ≡ outOfRange n own) where
+  pub open-by-7 : r ≡ true → b ≡ freshBench 0 0 → Opens (openOf n own (lentAs names counts)) (record { answer = starts.Refused 7; bench = b })
+  unfolding openOf startReply
+  open-by-7 t h = rw (← e, t) (record { answered = refl; bench = h })
+
+  module _ (t : r ≡ false) (q : Bool) (f : q ≡ shortLists (lentAs names counts)) where
+    pub open-by-8 : q ≡ true → b ≡ freshBench 0 0 → Opens (openOf n own (lentAs names counts)) (record { answer = starts.Refused 8; bench = b })
+    unfolding openOf startReply
+    open-by-8 u h = rw (← e, t, ← f, u) (record { answered = refl; bench = h })
+
+    pub opened : q ≡ false → b ≡ freshBench n own → Opens (openOf n own (lentAs names counts)) (record { answer = starts.Done; bench = b })
+    unfolding openOf startReply
+    opened u h = rw (← e, t, ← f, u) (record { answered = refl; bench = h })
+
+-- ---- Begin
+
+module _ (b : Bench) (names counts : List ℕ) (beat : ℕ) (r : Bool) (e : r ≡ beyond b) where
+  pub begin-by-9 : r ≡ true → Begins (beginOf (stateOf b names counts) beat) (record { answer = starts.Refused 9; bench = b }) names counts
+  unfolding beginOf startReply
+  begin-by-9 t = rw (← e, t) (record { answered = refl; bench = refl; nameList = refl; countList = refl })
+
+  module _ (t : r ≡ false) (q : Bool) (f : q ≡ shortLists (lentAs names counts)) where
+    pub begin-by-8 : q ≡ true → Begins (beginOf (stateOf b names counts) beat) (record { answer = starts.Refused 8; bench = b }) names counts
+    unfolding beginOf startReply
+    begin-by-8 u = rw (← e, t, ← f, u) (record { answered = refl; bench = refl; nameList = refl; countList = refl })
+
+    module _ (u : q ≡ false) where
+      pub begin-by-10 : lastBeat < beat → Begins (beginOf (stateOf b names counts) beat) (record { answer = starts.Refused 10; bench = b }) names counts
+      unfolding beginOf startReply
+      begin-by-10 l = rw (← e, t, ← f, u, lt-ltb lastBeat beat l) (record { answered = refl; bench = refl; nameList = refl; countList = refl })
+
+      module _ (l : beat ≤ lastBeat) where
+        pub begin-by-20 : beat < b .next → Begins (beginOf (stateOf b names counts) beat) (record { answer = starts.Refused 20; bench = b }) names counts
+        unfolding beginOf startReply
+        begin-by-20 m = rw (← e, t, ← f, u, le-ltb lastBeat beat l, lt-ltb beat (b .next) m) (record { answered = refl; bench = refl; nameList = refl; countList = refl })
+
+        pub begins : (c : Bench) → b .next ≤ beat → c ≡ begunBench b beat
+            → Begins (beginOf (stateOf b names counts) beat) (record { answer = starts.Done; bench = c }) names counts
+        unfolding beginOf startReply
+        begins c m h =
+            rw (← e, t, ← f, u, le-ltb lastBeat beat l, le-ltb beat (b .next) m) (record { answered = refl; bench = h; nameList = refl; countList = refl })
+
+-- ---- Receive
+
+module _ (b : Bench) (names counts bytes : List ℕ) (r : Bool) (e : r ≡ beyond b) where
+  pub receive-by-9 : r ≡ true → Receives (receiveOf (stateOf b names counts) bytes) (record { answer = takings.Refused 9; bench = b }) names counts
+  unfolding receiveOf takenReply
+  receive-by-9 t = rw (← e, t) (record { answered = refl; bench = refl; nameList = refl; countList = refl })
+
+  module _ (t : r ≡ false) (q : Bool) (f : q ≡ shortLists (lentAs names counts)) where
+    pub receive-by-8 : q ≡ true → Receives (receiveOf (stateOf b names counts) bytes) (record { answer = takings.Refused 8; bench = b }) names counts
+    unfolding receiveOf takenReply
+    receive-by-8 u = rw (← e, t, ← f, u) (record { answered = refl; bench = refl; nameList = refl; countList = refl })
+
+    module _ (u : q ≡ false) (i : Bool) (g : i ≡ idle b) where
+      pub receive-by-22 : i ≡ true → Receives (receiveOf (stateOf b names counts) bytes) (record { answer = takings.Refused 22; bench = b }) names counts
+      unfolding receiveOf takenReply
+      receive-by-22 v = rw (← e, t, ← f, u, ← g, v) (record { answered = refl; bench = refl; nameList = refl; countList = refl })
+
+      pub receives-by : (x : Received) (ns cs : List ℕ) → i ≡ false → Receives (receives (stateOf b names counts) bytes (readOf (b .n) bytes)) x ns cs
+          → Receives (receiveOf (stateOf b names counts) bytes) x ns cs
+      unfolding receiveOf
+      receives-by x ns cs v h = rw (← e, t, ← f, u, ← g, v) h
+
+-- ---- a message read
+
+module _ (b : Bench) (names counts bytes : List ℕ) (r : Message) (e : readingOf bytes r ≡ readOf (b .n) bytes) where
+  pub read-refused : (k : ℕ) → r ≡ answers.Refused k
+      → Receives (receives (stateOf b names counts) bytes (readOf (b .n) bytes)) (record { answer = takings.Refused k; bench = b }) names counts
+  unfolding takenReply
+  read-refused k h = rw (read-as-refused (b .n) bytes r k e h) (record { answered = refl; bench = refl; nameList = refl; countList = refl })
+
+  module _ (head : Head) (x : Received) (ns cs : List ℕ) where
+    pub read-log : r ≡ answers.Log head → Receives (receives (stateOf b names counts) bytes (means (logMessage (contentOf bytes head)))) x ns cs
+        → Receives (receives (stateOf b names counts) bytes (readOf (b .n) bytes)) x ns cs
+    read-log h f = rw (read-as-log (b .n) bytes r head e h) f
+
+    pub read-proposal : (priority : ℕ) → r ≡ answers.Proposal head priority
+        → Receives (receives (stateOf b names counts) bytes (means (proposalMessage (contentOf bytes head) priority))) x ns cs
+        → Receives (receives (stateOf b names counts) bytes (readOf (b .n) bytes)) x ns cs
+    read-proposal priority h f = rw (read-as-proposal (b .n) bytes r head priority e h) f
+
+-- ---- its window
+
+module _ (b : Bench) (names counts bytes : List ℕ) (head : Head) (beat : ℕ) (r : Bool) (h : beat ≡ beatOf b) where
+  module _ (e : r ≡ logWindow (head .view) beat) where
+    pub log-shut : r ≡ false
+        → Receives (receives (stateOf b names counts) bytes (means (logMessage (contentOf bytes head)))) (record { answer = takings.Refused 21; bench = b }) names counts
+    unfolding takenReply
+    log-shut t = rw (← h, ← e, t) (record { answered = refl; bench = refl; nameList = refl; countList = refl })
+
+    pub log-taken : (x : Received) (ns cs : List ℕ) → r ≡ true
+        → Receives (taken (fileLog (stateOf b names counts) bytes (head .view) (head .sender))) x ns cs
+        → Receives (receives (stateOf b names counts) bytes (means (logMessage (contentOf bytes head)))) x ns cs
+    unfolding fileMessage
+    log-taken x ns cs t f = rw (← h, ← e, t) f
+
+  module _ (priority : ℕ) (e : r ≡ proposalWindow (head .view) beat) where
+    pub proposal-shut : r ≡ false
+        → Receives (receives (stateOf b names counts) bytes (means (proposalMessage (contentOf bytes head) priority))) (record { answer = takings.Refused 21; bench = b }) names counts
+    unfolding takenReply
+    proposal-shut t = rw (← h, ← e, t) (record { answered = refl; bench = refl; nameList = refl; countList = refl })
+
+    pub proposal-taken : (x : Received) (ns cs : List ℕ) → r ≡ true
+        → Receives (taken (fileProposal (stateOf b names counts) bytes (head .view) (head .sender) priority)) x ns cs
+        → Receives (receives (stateOf b names counts) bytes (means (proposalMessage (contentOf bytes head) priority))) x ns cs
+    unfolding fileMessage
+    proposal-taken x ns cs t f = rw (← h, ← e, t) f
+
+-- ---- its filing
+
+pub word-first : (a : Answer) → a ≡ words.First → takenReply takings.First ≡ took (wordOf a)
+unfolding takenReply
+word-first a e = rw e refl
+
+pub word-second : (a : Answer) → a ≡ words.Second → takenReply takings.Second ≡ took (wordOf a)
+unfolding takenReply
+word-second a e = rw e refl
+
+pub word-known : (a : Answer) → a ≡ words.Known → takenReply takings.Known ≡ took (wordOf a)
+unfolding takenReply
+word-known a e = rw e refl
+
+module _ (b : Bench) (names counts bytes : List ℕ) (v sender : ℕ) (ns cs : List ℕ) (w : Taken) where
+  pub filed-log : (g : Agreement) (base : ℕ) (f : Filed) (c : Bench) → g ≡ agreementOf b v → base ≡ logsPlace v
+      → Files (fileOf g names counts base bytes sender) f ns cs → takenReply w ≡ took (wordOf (f .answer)) → c ≡ withAgreement b v (f .agreement)
+      → Receives (taken (fileLog (stateOf b names counts) bytes v sender)) (record { answer = w; bench = c }) ns cs
+  filed-log g base f c h k d a x =
+      let t : Files (fileOf (agreementOf b v) names counts (logsPlace v) bytes sender) f ns cs = rw (← h, ← k) d in
+      record {
+        answered = a ∙ ap took (t .answered);
+        bench = x ∙ ap (withAgreement b v) (t .agreement);
+        nameList = t .nameList;
+        countList = t .countList;
+      }
+
+  pub filed-proposal : (priority : ℕ) (g : Proposals) (f : FiledProposal) → g ≡ proposalsOf b v
+      → FilesProposal (fileProposalOf g names counts proposalsPlace bytes sender priority) f ns cs → takenReply w ≡ took (wordOf (f .answer))
+      → Receives (taken (fileProposal (stateOf b names counts) bytes v sender priority)) (record { answer = w; bench = withProposals b (f .proposals) }) ns cs
+  filed-proposal priority g f h d a =
+      let t : FilesProposal (fileProposalOf (proposalsOf b v) names counts proposalsPlace bytes sender priority) f ns cs = rw (← h) d in
+      record {
+        answered = a ∙ ap took (t .answered);
+        bench = ap (withProposals b) (t .proposals);
+        nameList = t .nameList;
+        countList = t .countList;
+      }

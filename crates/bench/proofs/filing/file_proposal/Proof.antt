@@ -1,0 +1,30 @@
+use Rattle.bench.proofs.CallCases.{filed-proposal}
+use borrow.Author.Needs.{needs}
+use Rattle.bench.proofs.filing.file_proposal.Statement.{statement}
+use Rattle.bench.proofs.filing.file_proposal.Tie as tie
+use Rattle.agreement.proofs.proposing.file.Reads as file-reads
+use Rattle.bench.proofs.filing.word.Reads as word-reads
+use Rattle.bench.proofs.record.proposals_of.Reads as proposals-of-reads
+
+proposals-of-requires : tie.Need-proposals-of-requires
+proposals-of-requires c κs = search needs
+
+file-requires : tie.Need-file-requires
+file-requires c κs = search needs
+
+word-requires : tie.Need-word-requires
+word-requires c κs = search needs
+
+same-length : tie.Need-same-length
+same-length c = search needs
+
+same-length-2 : tie.Need-same-length-2
+same-length-2 c = search needs
+
+returns : tie.Need-returns
+returns c = search filed-proposal
+
+pub file-proposal-spec : {M : Type 1} → statement M
+file-proposal-spec =
+    tie.close
+    (tie.spec proposals-of-requires file-requires word-requires same-length same-length-2 returns)

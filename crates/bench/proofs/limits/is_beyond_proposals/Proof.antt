@@ -1,0 +1,15 @@
+use Rattle.bench.specs.Record.{beyondProposals}
+use borrow.Author.Needs.{needs}
+use Rattle.bench.proofs.limits.is_beyond_proposals.Statement.{statement}
+use Rattle.bench.proofs.limits.is_beyond_proposals.Tie as tie
+use Rattle.bench.proofs.limits.has_bad_proposer.Reads as has-bad-proposer-reads
+
+has-bad-proposer-requires : tie.Need-has-bad-proposer-requires
+has-bad-proposer-requires c κs = search needs
+
+returns : tie.Need-returns
+unfolding beyondProposals
+returns c = cc
+
+pub is-beyond-proposals-spec : {M : Type 1} → statement M
+is-beyond-proposals-spec = tie.close (tie.spec has-bad-proposer-requires returns)

@@ -1,0 +1,53 @@
+-- What each call promises: its answer, read as document 01's, the record and both lists, each by an equation (document 01,
+-- "Form of the work", a and its last lines). Assumes nothing.
+use Prim.Native.Nat.{ℕ}
+use mathlib.Core.List.{List}
+use mathlib.Core.Path.{_≡_}
+use Rattle.agreement.specs.Filing.{first, second, known}
+use Rattle.bench.specs.Layout.{Lent}
+use Rattle.bench.specs.Calls.{Reply, refused, done, took, State, Opening, Step}
+use Rattle.bench.specs.declared.Bench.{Bench}
+use Rattle.bench.specs.declared.Start.{Start}
+use Rattle.bench.specs.declared.Start.the-variants as starts
+use Rattle.bench.specs.declared.Taken.{Taken}
+use Rattle.bench.specs.declared.Taken.the-variants as takings
+use Rattle.bench.specs.declared.Started.{Started}
+use Rattle.bench.specs.declared.Received.{Received}
+
+-- ---- what is handed in, as the definitions take it
+
+abbrev pub lentAs : List ℕ → List ℕ → Lent
+lentAs names counts = record { names = names; counts = counts }
+
+abbrev pub stateOf : Bench → List ℕ → List ℕ → State
+stateOf b names counts = record { bench = b; lent = lentAs names counts }
+
+-- ---- the code's answers, as document 01's: nothing is lost by it (Replies: the laws `..-injective`)
+
+unfoldable pub startReply : Start → Reply
+startReply starts.Done = done
+startReply (starts.Refused number) = refused number
+
+unfoldable pub takenReply : Taken → Reply
+takenReply takings.First = took first
+takenReply takings.Second = took second
+takenReply takings.Known = took known
+takenReply (takings.Refused number) = refused number
+
+-- ---- a call answered so, and left record, lists and buffer so. Open and Begin cannot write the lists, which are lent to them for reading alone.
+
+pub record Opens (t : Opening) (r : Started) : Type 0 where
+  pub answered : startReply (r .answer) ≡ t .reply
+  pub bench : r .bench ≡ t .bench
+
+pub record Begins (t : Step) (r : Started) (names counts : List ℕ) : Type 0 where
+  pub answered : startReply (r .answer) ≡ t .answer .reply
+  pub bench : r .bench ≡ t .held .bench
+  pub nameList : names ≡ t .held .lent .names
+  pub countList : counts ≡ t .held .lent .counts
+
+pub record Receives (t : Step) (r : Received) (names counts : List ℕ) : Type 0 where
+  pub answered : takenReply (r .answer) ≡ t .answer .reply
+  pub bench : r .bench ≡ t .held .bench
+  pub nameList : names ≡ t .held .lent .names
+  pub countList : counts ≡ t .held .lent .counts
