@@ -103,7 +103,7 @@ kept-length names counts base g i a e =
 
 -- the proposals of view v, in a record within its limits
 module _ (b : Bench) (e : beyondProposals (b .n) (b .proposals) ≡ false) where
-  proposed-short : (v i : ℕ) → i < mostSenders → getD (proposalsOf b v .lengths) i 0 ≤ mostBlocks
+  pub proposed-short : (v i : ℕ) → i < mostSenders → getD (proposalsOf b v .lengths) i 0 ≤ mostBlocks
   unfolding proposalsOf beyondProposals
   proposed-short v i h =
       let none-bad = or-false (ltb lastView (b .proposals .view)) (anyPlace (badProposer (b .n) (b .proposals))) e .1 in
@@ -112,7 +112,7 @@ module _ (b : Bench) (e : beyondProposals (b .n) (b .proposals) ≡ false) where
       (λ t. rw t (ltb-false mostBlocks (getD (b .proposals .lengths) i 0) one))
       (λ t. rw t (let z = getD-all {A = ℕ} mostSenders i 0 in omega arith))
 
-within-proposals : (b : Bench) → beyond b ≡ false → beyondProposals (b .n) (b .proposals) ≡ false
+pub within-proposals : (b : Bench) → beyond b ≡ false → beyondProposals (b .n) (b .proposals) ≡ false
 unfolding beyond
 within-proposals b e =
     let c = or-false (outOfRange (b .n) (b .own)) _ e .1 in

@@ -20,7 +20,7 @@ use Rattle.agreement.specs.declared.Proposals.{Proposals}
 use Rattle.bench.specs.Layout.{shortLists, outOfRange, logsPlace, proposalsPlace}
 use Rattle.bench.specs.Calendar.{lastBeat, logWindow, proposalWindow}
 use Rattle.bench.specs.Calls.{took}
-use Rattle.bench.specs.Record.{freshBench, agreementOf, proposalsOf, beatOf, idle, beyond, withAgreement, withProposals}
+use Rattle.bench.specs.Record.{freshBench, agreementOf, proposalsOf, beatOf, notAboveLast, idle, beyond, withAgreement, withProposals}
 use Rattle.bench.specs.ByRecord.{openOf, begunBench, beginOf, fileLog, fileProposal, fileMessage, taken, receives, receiveOf}
 use Rattle.bench.specs.Answers.{lentAs, stateOf, startReply, takenReply, Opens, Begins, Receives}
 use Rattle.bench.specs.declared.Bench.{Bench}
@@ -62,16 +62,15 @@ module _ (b : Bench) (names counts : List ℕ) (beat : ℕ) (r : Bool) (e : r �
       unfolding beginOf startReply
       begin-by-10 l = rw (← e, t, ← f, u, lt-ltb lastBeat beat l) (record { answered = refl; bench = refl; nameList = refl; countList = refl })
 
-      module _ (l : beat ≤ lastBeat) where
-        pub begin-by-20 : beat < b .next → Begins (beginOf (stateOf b names counts) beat) (record { answer = starts.Refused 20; bench = b }) names counts
+      module _ (l : beat ≤ lastBeat) (i : Bool) (g : i ≡ notAboveLast b beat) where
+        pub begin-by-20 : i ≡ true → Begins (beginOf (stateOf b names counts) beat) (record { answer = starts.Refused 20; bench = b }) names counts
         unfolding beginOf startReply
-        begin-by-20 m = rw (← e, t, ← f, u, le-ltb lastBeat beat l, lt-ltb beat (b .next) m) (record { answered = refl; bench = refl; nameList = refl; countList = refl })
+        begin-by-20 v = rw (← e, t, ← f, u, le-ltb lastBeat beat l, ← g, v) (record { answered = refl; bench = refl; nameList = refl; countList = refl })
 
-        pub begins : (c : Bench) → b .next ≤ beat → c ≡ begunBench b beat
+        pub begins : (c : Bench) → i ≡ false → c ≡ begunBench b beat
             → Begins (beginOf (stateOf b names counts) beat) (record { answer = starts.Done; bench = c }) names counts
         unfolding beginOf startReply
-        begins c m h =
-            rw (← e, t, ← f, u, le-ltb lastBeat beat l, le-ltb beat (b .next) m) (record { answered = refl; bench = h; nameList = refl; countList = refl })
+        begins c v h = rw (← e, t, ← f, u, le-ltb lastBeat beat l, ← g, v) (record { answered = refl; bench = h; nameList = refl; countList = refl })
 
 -- ---- Receive
 

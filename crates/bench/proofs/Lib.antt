@@ -29,6 +29,10 @@ pub mod RecordCases
 pub mod LimitCases
 pub mod Replies
 pub mod CallCases
+pub mod SeeingLaws
+pub mod DecidingLaws
+pub mod MakingLaws
+pub mod ActCases
 -- Worked examples:
 pub mod Odd
 pub mod Order

@@ -1,12 +1,20 @@
 -- The code's answers, read as document 01's: nothing is lost by it. Assumes nothing.
+use Prim.Native.Nat.{ℕ}
+use mathlib.Core.List.{List}
+use mathlib.Core.Option.{some, none}
 use mathlib.Core.Path.{_≡_, refl, sym, ap, _∙_}
+use lib.ListN.{length}
+use Rattle.message.specs.Message.{logMessage, proposalMessage}
+use Rattle.message.proofs.Acceptance.{length-blocks}
 use Rattle.agreement.specs.Filing.{first, second, known}
 use Rattle.bench.specs.Calls.{Reply, refused, done, took, acted}
-use Rattle.bench.specs.Answers.{startReply, takenReply}
+use Rattle.bench.specs.Answers.{startReply, takenReply, madeReply}
 use Rattle.bench.specs.declared.Start.{Start}
 use Rattle.bench.specs.declared.Start.the-variants as starts
 use Rattle.bench.specs.declared.Taken.{Taken}
 use Rattle.bench.specs.declared.Taken.the-variants as takings
+use Rattle.bench.specs.declared.Made.{Made}
+use Rattle.bench.specs.declared.Made.the-variants as makings
 
 -- ---- Open and Begin: the answer that a reply comes from
 
@@ -43,3 +51,23 @@ taken-back (takings.Refused k) = refl
 
 pub takenReply-injective : (a b : Taken) → takenReply a ≡ takenReply b → a ≡ b
 takenReply-injective a b e = sym (taken-back a) ∙ ap takenBack e ∙ taken-back b
+
+-- ---- Act, whatever the buffer holds
+
+abbrev madeBack : Reply → Made
+madeBack (refused k) = makings.Refused k
+madeBack done = makings.Nothing
+madeBack (took w) = makings.Nothing
+madeBack (acted none) = makings.Nothing
+madeBack (acted (some (logMessage m))) = makings.Log (length (m .log))
+madeBack (acted (some (proposalMessage m priority))) = makings.Proposal (length (m .log))
+
+made-back : (out : List ℕ) (a : Made) → madeBack (madeReply out a) ≡ a
+unfolding madeReply
+made-back out makings.Nothing = refl
+made-back out (makings.Log k) = ap (λ (n : ℕ). makings.Log n) (length-blocks out k)
+made-back out (makings.Proposal k) = ap (λ (n : ℕ). makings.Proposal n) (length-blocks out k)
+made-back out (makings.Refused k) = refl
+
+pub madeReply-injective : (out : List ℕ) (a b : Made) → madeReply out a ≡ madeReply out b → a ≡ b
+madeReply-injective out a b e = sym (made-back out a) ∙ ap madeBack e ∙ made-back out b

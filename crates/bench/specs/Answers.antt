@@ -1,18 +1,23 @@
--- What each call promises: its answer, read as document 01's, the record and both lists, each by an equation (document 01,
+-- What each call promises: its answer, read as document 01's, the record, both lists and the outgoing buffer, each by an equation (document 01,
 -- "Form of the work", a and its last lines). Assumes nothing.
 use Prim.Native.Nat.{ℕ}
 use mathlib.Core.List.{List}
+use mathlib.Core.Option.{some, none}
 use mathlib.Core.Path.{_≡_}
+use Rattle.message.specs.Message.{Content, logMessage, proposalMessage, senderIn, viewIn, priorityIn, blocksIn}
 use Rattle.agreement.specs.Filing.{first, second, known}
 use Rattle.bench.specs.Layout.{Lent}
-use Rattle.bench.specs.Calls.{Reply, refused, done, took, State, Opening, Step}
+use Rattle.bench.specs.Calls.{Reply, refused, done, took, acted, State, Opening, Step}
 use Rattle.bench.specs.declared.Bench.{Bench}
 use Rattle.bench.specs.declared.Start.{Start}
 use Rattle.bench.specs.declared.Start.the-variants as starts
 use Rattle.bench.specs.declared.Taken.{Taken}
 use Rattle.bench.specs.declared.Taken.the-variants as takings
+use Rattle.bench.specs.declared.Made.{Made}
+use Rattle.bench.specs.declared.Made.the-variants as makings
 use Rattle.bench.specs.declared.Started.{Started}
 use Rattle.bench.specs.declared.Received.{Received}
+use Rattle.bench.specs.declared.Acted.{Acted}
 
 -- ---- what is handed in, as the definitions take it
 
@@ -22,7 +27,7 @@ lentAs names counts = record { names = names; counts = counts }
 abbrev pub stateOf : Bench → List ℕ → List ℕ → State
 stateOf b names counts = record { bench = b; lent = lentAs names counts }
 
--- ---- the code's answers, as document 01's: nothing is lost by it (Replies: the laws `..-injective`)
+-- ---- the code's answers, as document 01's: nothing is lost by it (Replies: the three laws `..-injective`)
 
 unfoldable pub startReply : Start → Reply
 startReply starts.Done = done
@@ -33,6 +38,17 @@ takenReply takings.First = took first
 takenReply takings.Second = took second
 takenReply takings.Known = took known
 takenReply (takings.Refused number) = refused number
+
+-- a message of k blocks at the front of the outgoing buffer
+abbrev pub contentMade : List ℕ → ℕ → Content
+contentMade out k = record { sender = senderIn out; view = viewIn out; log = blocksIn out k }
+
+-- What an Act made stands in the buffer that it leaves: the answer says which kind, and how many blocks.
+unfoldable pub madeReply : List ℕ → Made → Reply
+madeReply out makings.Nothing = acted none
+madeReply out (makings.Log k) = acted (some (logMessage (contentMade out k)))
+madeReply out (makings.Proposal k) = acted (some (proposalMessage (contentMade out k) (priorityIn out)))
+madeReply out (makings.Refused number) = refused number
 
 -- ---- a call answered so, and left record, lists and buffer so. Open and Begin cannot write the lists, which are lent to them for reading alone.
 
@@ -51,3 +67,10 @@ pub record Receives (t : Step) (r : Received) (names counts : List ℕ) : Type 0
   pub bench : r .bench ≡ t .held .bench
   pub nameList : names ≡ t .held .lent .names
   pub countList : counts ≡ t .held .lent .counts
+
+pub record Acts (t : Step) (r : Acted) (names counts out : List ℕ) : Type 0 where
+  pub answered : madeReply out (r .answer) ≡ t .answer .reply
+  pub bench : r .bench ≡ t .held .bench
+  pub nameList : names ≡ t .held .lent .names
+  pub countList : counts ≡ t .held .lent .counts
+  pub buffer : out ≡ t .answer .out

@@ -1,14 +1,18 @@
-// One bench: its record and its calls. Names and counts of blocks stand in two lent lists beside it. What each call gives is
-// defined in specs/ByRecord.antt, for every record, list, message and buffer; a refused call changes nothing. The code of
-// Act is still to come.
+// One bench: its record and its four calls. Names and counts of blocks stand in two lent lists beside it. What each call gives is
+// defined in specs/ByRecord.antt, for every record, list, message and buffer; a refused call changes nothing.
+mod acts;
 mod beginning;
 mod calendar;
+mod deciding;
 mod filing;
 mod limits;
+mod making;
 mod record;
+mod seeing;
 
-ghost use Rattle.bench.specs.ByRecord.{openOf, beginOf, receiveOf};
-ghost use Rattle.bench.specs.Answers.{lentAs, stateOf, Opens, Begins, Receives};
+ghost use Rattle.bench.specs.ByRecord.{openOf, beginOf, receiveOf, actOf};
+ghost use Rattle.bench.specs.Answers.{lentAs, stateOf, Opens, Begins, Receives, Acts};
+use acts::act_at;
 use agreement::Agreement;
 use agreement::Proposals;
 use beginning::begun;
@@ -17,6 +21,7 @@ use limits::is_beyond;
 use limits::is_out_of_range;
 use limits::is_short;
 use record::fresh;
+use record::is_begun;
 use record::is_idle;
 
 // The numbers of specs/Layout.antt and specs/Calendar.antt, and the blocks of a log at the most.
@@ -24,15 +29,19 @@ const MOST_SENDERS: usize = 32;
 
 const MOST_BLOCKS: usize = 64;
 
-const SPAN: u32 = 2048;
+const SPAN: u32 = 32 * 64;
 
-const PROPOSALS_PLACE: u32 = 4096;
+const PROPOSALS_PLACE: u32 = 2 * SPAN;
 
-const LEAST_LENT: usize = 6208;
+const DECIDED_PLACE: usize = 3 * MOST_SENDERS * MOST_BLOCKS;
+
+const LEAST_LENT: usize = DECIDED_PLACE + MOST_BLOCKS;
+
+const MOST_BYTES: usize = 16 + 10 * MOST_BLOCKS;
 
 const LAST_VIEW: u32 = 1000000;
 
-const LAST_BEAT: u32 = 4000006;
+const LAST_BEAT: u32 = 4 * LAST_VIEW + 6;
 
 // A bench is a validator. Its record:
 pub struct Bench {
@@ -66,6 +75,14 @@ pub enum Taken {
     Refused(u8),
 }
 
+// The answer of Act: what it made, with its blocks. The message stands at the front of the outgoing buffer.
+pub enum Made {
+    Nothing,
+    Log(u8),
+    Proposal(u8),
+    Refused(u8),
+}
+
 // An answer, and the record afterwards.
 pub struct Started {
     pub answer: Start,
@@ -74,6 +91,11 @@ pub struct Started {
 
 pub struct Received {
     pub answer: Taken,
+    pub bench: Bench,
+}
+
+pub struct Acted {
+    pub answer: Made,
     pub bench: Bench,
 }
 
@@ -121,7 +143,7 @@ pub fn begin(bench: Bench, names: &[u64], counts: &[u16], beat: u32) -> Started
             bench,
         };
     }
-    if beat < bench.next {
+    if is_begun(bench, beat) {
         return Started {
             answer: Start::Refused(20),
             bench,
@@ -156,4 +178,44 @@ pub fn receive(bench: Bench, names: &mut [u64], counts: &mut [u16], message: &[u
         };
     }
     take(bench, names, counts, message)
+}
+
+// Act: the gathering ends, and what the calendar asks at its beat is done; an offered block, of name zero where there is none,
+// and a priority serve a proposal. Refused: 9, 8, 11, 22.
+pub fn act(
+    bench: Bench,
+    names: &mut [u64],
+    counts: &mut [u16],
+    out: &mut [u8],
+    name: u64,
+    count: u16,
+    priority: u64,
+) -> Acted
+    ensures { λ r. ⌜ Acts (actOf (stateOf bench (now (names .entry)) (now (counts .entry))) (record { name = name; count = count }) priority (now (out .entry))) r (now (names .exit)) (now (counts .exit)) (now (out .exit)) ⌝ }
+{
+    if is_beyond(bench) {
+        return Acted {
+            answer: Made::Refused(9),
+            bench,
+        };
+    }
+    if is_short(names, counts) {
+        return Acted {
+            answer: Made::Refused(8),
+            bench,
+        };
+    }
+    if out.len() < MOST_BYTES {
+        return Acted {
+            answer: Made::Refused(11),
+            bench,
+        };
+    }
+    if is_idle(bench) {
+        return Acted {
+            answer: Made::Refused(22),
+            bench,
+        };
+    }
+    act_at(bench, names, counts, out, name, count, priority)
 }

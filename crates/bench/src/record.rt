@@ -1,7 +1,7 @@
 // The record: fresh, and the agreement and the proposals of a view in it.
 ghost use mathlib.Core.Path.{_≡_};
 ghost use Rattle.bench.specs.Layout.{isEven, logsPlace};
-ghost use Rattle.bench.specs.Record.{freshBench, ofView, agreementOf, proposalsOf, beatOf, idle, withAgreement};
+ghost use Rattle.bench.specs.Record.{freshBench, ofView, agreementOf, proposalsOf, beatOf, notAboveLast, idle, withAgreement};
 use super::Bench;
 use super::SPAN;
 use agreement::Agreement;
@@ -39,6 +39,13 @@ pub(crate) fn beat_of(b: Bench) -> u32
         return 0;
     }
     b.next - 1
+}
+
+// A beat that is not above the last begun.
+pub(crate) fn is_begun(b: Bench, beat: u32) -> bool
+    ensures { λ r. ⌜ r ≡ notAboveLast b beat ⌝ }
+{
+    beat < b.next
 }
 
 // A view of the even slot.

@@ -1,8 +1,8 @@
 -- What the public functions over the lists and the buffer promise where places and lengths are in range, as the layers above meet them.
 -- Assumes nothing.
-use Prim.Native.Nat.{ℕ, _+_, _*_, _^_, _≤_}
+use Prim.Native.Nat.{ℕ, _+_, _*_, _^_, _<_, _≤_}
 use native.Mathlib.Omega.{arith}
-use mathlib.Core.List.{List}
+use mathlib.Core.List.{List, _++_}
 use mathlib.Core.Bool.{Bool, true}
 use mathlib.Core.Path.{_≡_, ap, _∙_}
 use borrow.Author.Tests.{le-leb}
@@ -10,11 +10,11 @@ use lib.ListN.{length, drop}
 use Rattle.message.specs.Limits.{mostBlocks, headLength, blockWidth}
 use Rattle.message.specs.Numbers.{AllBelow, put}
 use Rattle.message.specs.Logs.{Log, isPrefix, sameLog, sharedLength, namesOf, countsOf}
-use Rattle.message.specs.Message.{Meaning, means, readOf, logOf, bytesOf, countIn, logIn}
+use Rattle.message.specs.Message.{Content, Meaning, logMessage, proposalMessage, said, means, readOf, logOf, logKind, proposalKind, messageBytes, bytesOf, countIn, priorityIn, logIn, contentIn}
 use Rattle.message.specs.Store.{logAt, within, holdsLog, prefixAt, sharedAt, matchesAt, Stores, storeOf, roomFor, Writes, writeOf}
 use Rattle.message.proofs.PartLaws.{put-front, length-put}
 use Rattle.message.proofs.Acceptance.{accepted, form}
-use Rattle.message.proofs.WrittenFields.{length-message, count-message, log-message}
+use Rattle.message.proofs.WrittenFields.{sender-front, view-front, priority-front, log-front, length-message, count-message, log-message}
 
 -- ---- the tests
 
@@ -76,3 +76,29 @@ module _ (out : List ℕ) (m : Meaning) (room : length (bytesOf m) ≤ length ou
 
   pub log-made : AllBelow (2 ^ 64) (namesOf (logOf m)) → AllBelow (2 ^ 16) (countsOf (logOf m)) → logIn (put out 0 (bytesOf m)) ≡ logOf m
   log-made n c = ap logIn (put-front out (bytesOf m) room) ∙ log-message m (drop (length (bytesOf m)) out) n c
+
+-- ---- and its whole content is read back from there, and a PROPOSAL's priority
+
+content-front : (m : Content) (kind priority : ℕ) (r : List ℕ) → m .view < 256 ^ 4 → AllBelow (2 ^ 64) (namesOf (m .log)) → AllBelow (2 ^ 16) (countsOf (m .log))
+    → contentIn (messageBytes m kind priority ++ r) ≡ m
+content-front m kind priority r h n c =
+    let s = sender-front m kind priority r in
+    let v = view-front m kind priority r h in
+    let l = log-front m kind priority r n c in
+    λ i. record { sender = s i; view = v i; log = l i }
+
+content-message : (m : Meaning) (r : List ℕ) → said m .view < 256 ^ 4 → AllBelow (2 ^ 64) (namesOf (logOf m)) → AllBelow (2 ^ 16) (countsOf (logOf m))
+    → contentIn (bytesOf m ++ r) ≡ said m
+unfolding bytesOf
+content-message (logMessage m) r = content-front m logKind 0 r
+content-message (proposalMessage m priority) r = content-front m proposalKind priority r
+
+pub content-made : (out : List ℕ) (m : Meaning) → length (bytesOf m) ≤ length out
+    → said m .view < 256 ^ 4 → AllBelow (2 ^ 64) (namesOf (logOf m)) → AllBelow (2 ^ 16) (countsOf (logOf m)) → contentIn (put out 0 (bytesOf m)) ≡ said m
+content-made out m room h n c = ap contentIn (put-front out (bytesOf m) room) ∙ content-message m (drop (length (bytesOf m)) out) h n c
+
+pub priority-made : (out : List ℕ) (m : Content) (priority : ℕ) → length (bytesOf (proposalMessage m priority)) ≤ length out → priority < 256 ^ 8
+    → priorityIn (put out 0 (bytesOf (proposalMessage m priority))) ≡ priority
+unfolding bytesOf
+priority-made out m priority room h =
+    let s = messageBytes m proposalKind priority in ap priorityIn (put-front out s room) ∙ priority-front m proposalKind priority (drop (length s) out) h

@@ -1,0 +1,139 @@
+-- Act, case by case, as the code finds it: its refusals, and the row of the calendar. Assumes nothing.
+use Prim.Native.Nat.{ℕ, zero, suc, _+_, _<_, _≤_}
+use mathlib.Core.List.{List}
+use mathlib.Core.Bool.{Bool, true, false, _||_}
+use mathlib.Core.Path.{_≡_, refl, ap, sym, subst, _∙_}
+use lib.Dec.{ltb}
+use lib.ListN.{length}
+use borrow.Author.Tests.{lt-ltb, le-ltb, ltb-false}
+use Rattle.message.specs.Limits.{mostBlocks}
+use Rattle.message.specs.Logs.{Block}
+use Rattle.message.proofs.TestLaws.{or-false}
+use Rattle.bench.specs.Layout.{mostBytes, shortLists, outOfRange}
+use Rattle.bench.specs.Calendar.{lastBeat, viewOf, placeIn, Act, proposing, voting, deciding, snapping, actAt}
+use Rattle.bench.specs.Calls.{State}
+use Rattle.bench.specs.Acts.{makes}
+use Rattle.bench.specs.Record.{beatOf, idle, withGatheringOver, beyondAgreement, beyondProposals, beyond}
+use Rattle.bench.specs.ByRecord.{settled, snappedTwo, changed, actedOf, over, actOf}
+use Rattle.bench.specs.Answers.{lentAs, stateOf, madeReply, Acts}
+use Rattle.bench.specs.Steps.{Tested, noBlock, Leaves, Snaps}
+use Rattle.bench.specs.declared.Bench.{Bench}
+use Rattle.bench.specs.declared.Acted.{Acted}
+use Rattle.bench.specs.declared.Made.the-variants as makings
+
+-- ---- the row: of a place in a view that is none of the first three
+
+after-second : (place : ℕ) → (place ≡ 0 → ⊥) → (place ≡ 1 → ⊥) → (place ≡ 2 → ⊥) → actAt place ≡ snapping
+after-second zero a b c = absurd (a refl)
+after-second (suc zero) a b c = absurd (b refl)
+after-second (suc (suc zero)) a b c = absurd (c refl)
+after-second (suc (suc (suc p))) a b c = refl
+
+module _ (b : Bench) (names counts out : List ℕ) where
+  -- a gathering that is over does not matter to what was tested
+  pub tested-over : Tested (stateOf b names counts) out → Tested (stateOf (withGatheringOver b) names counts) out
+  unfolding beyond
+  tested-over t = record { limits = t .limits; lists = t .lists; room = t .room }
+
+  -- what was tested of the decided log, and of the lists
+  pub decided-short : Tested (stateOf b names counts) out → b .decided ≤ mostBlocks
+  unfolding beyond
+  decided-short t =
+      let filed : Bool = beyondAgreement (b .n) (b .even) || (beyondAgreement (b .n) (b .odd) || beyondProposals (b .n) (b .proposals)) in
+      let long : Bool = ltb mostBlocks (b .decided) in
+      let late : Bool = ltb (lastBeat + 1) (b .next) in
+      let p = or-false (outOfRange (b .n) (b .own)) (late || (long || filed)) (t .limits) .1 in
+      ltb-false mostBlocks (b .decided) (or-false long filed (or-false late (long || filed) p .1) .0)
+
+  pub lists-long : Tested (stateOf b names counts) out → shortLists (lentAs names counts) ≡ false
+  lists-long t = t .lists
+
+  module _ (block : Block) (priority beat : ℕ) (x : Acted) (ns cs o : List ℕ) (h : beat ≡ beatOf b) where
+    -- the act of this row at the beat of the gathering
+    row : (a : Act) → actAt (placeIn beat) ≡ a → Acts (actedOf (over (stateOf b names counts)) block priority out (viewOf beat) a) x ns cs o
+        → Acts (actedOf (over (stateOf b names counts)) block priority out (viewOf (beatOf b)) (actAt (placeIn (beatOf b)))) x ns cs o
+    row a e f =
+        subst
+        (λ (k : ℕ). Acts (actedOf (over (stateOf b names counts)) block priority out (viewOf k) (actAt (placeIn k))) x ns cs o)
+        h
+        (subst (λ (r : Act). Acts (actedOf (over (stateOf b names counts)) block priority out (viewOf beat) r) x ns cs o) (sym e) f)
+
+    pub proposed : placeIn beat ≡ 0 → Acts (actedOf (stateOf (withGatheringOver b) names counts) block priority out (viewOf beat) proposing) x ns cs o
+        → Acts (actedOf (over (stateOf b names counts)) block priority out (viewOf (beatOf b)) (actAt (placeIn (beatOf b)))) x ns cs o
+    proposed e f = row proposing (ap actAt e) f
+
+    -- no block is used
+    vote-any : Acts (actedOf (stateOf (withGatheringOver b) names counts) noBlock 0 out (viewOf beat) voting) x ns cs o
+        → Acts (actedOf (over (stateOf b names counts)) block priority out (viewOf beat) voting) x ns cs o
+    unfolding actedOf makes
+    vote-any f = f
+
+    pub voted : placeIn beat ≡ 1 → Acts (actedOf (stateOf (withGatheringOver b) names counts) noBlock 0 out (viewOf beat) voting) x ns cs o
+        → Acts (actedOf (over (stateOf b names counts)) block priority out (viewOf (beatOf b)) (actAt (placeIn (beatOf b)))) x ns cs o
+    voted e f = row voting (ap actAt e) (vote-any f)
+
+  module _ (block : Block) (priority beat : ℕ) (c : Bench) (h : beat ≡ beatOf b) where
+    still : (ns cs : List ℕ) → Leaves (changed (over (stateOf b names counts)) (viewOf beat) deciding) c ns cs
+        → Acts (actedOf (over (stateOf b names counts)) block priority out (viewOf beat) deciding) (record { answer = makings.Nothing; bench = c }) ns cs out
+    unfolding actedOf makes madeReply
+    still ns cs f = record { answered = refl; bench = f .bench; nameList = f .nameList; countList = f .countList; buffer = refl }
+
+    pub decided : (ns cs : List ℕ) → placeIn beat ≡ 2 → Leaves (changed (stateOf (withGatheringOver b) names counts) (viewOf beat) deciding) c ns cs
+        → Acts (actedOf (over (stateOf b names counts)) block priority out (viewOf (beatOf b)) (actAt (placeIn (beatOf b)))) (record { answer = makings.Nothing; bench = c }) ns cs out
+    decided ns cs e f = row block priority beat (record { answer = makings.Nothing; bench = c }) ns cs out h deciding (ap actAt e) (still ns cs f)
+
+    snaps : Snaps (snappedTwo (viewOf beat)) (withGatheringOver b) c
+        → Acts (actedOf (over (stateOf b names counts)) block priority out (viewOf beat) snapping) (record { answer = makings.Nothing; bench = c }) names counts out
+    unfolding actedOf makes madeReply changed settled
+    snaps f =
+        let e = f .whole names counts in
+        record {
+          answered = refl;
+          bench = ap (λ (s : State). s .bench) e;
+          nameList = ap (λ (s : State). s .lent .names) e;
+          countList = ap (λ (s : State). s .lent .counts) e;
+          buffer = refl;
+        }
+
+    pub snapped-two : (placeIn beat ≡ 0 → ⊥) → (placeIn beat ≡ 1 → ⊥) → (placeIn beat ≡ 2 → ⊥) → Snaps (snappedTwo (viewOf beat)) (withGatheringOver b) c
+        → Acts (actedOf (over (stateOf b names counts)) block priority out (viewOf (beatOf b)) (actAt (placeIn (beatOf b)))) (record { answer = makings.Nothing; bench = c }) names counts out
+    snapped-two p q r f =
+        row block priority beat (record { answer = makings.Nothing; bench = c }) names counts out h snapping (after-second (placeIn beat) p q r) (snaps f)
+
+-- ---- Act's refusals, and what is tested where none of them is given
+
+pub act-asks : (b : Bench) (names counts out : List ℕ) (r q : Bool) → r ≡ beyond b → r ≡ false → q ≡ shortLists (lentAs names counts) → q ≡ false
+    → mostBytes ≤ length out → Tested (stateOf b names counts) out
+act-asks b names counts out r q e t f u l = record { limits = sym e ∙ t; lists = sym f ∙ u; room = le-ltb (length out) mostBytes l }
+
+module _ (b : Bench) (names counts out : List ℕ) (block : Block) (priority : ℕ) (r : Bool) (e : r ≡ beyond b) where
+  -- refused by k: all is as it was
+  abbrev RefusedBy : ℕ → Type 0
+  RefusedBy k = Acts (actOf (stateOf b names counts) block priority out) (record { answer = makings.Refused k; bench = b }) names counts out
+
+  pub act-by-9 : r ≡ true → RefusedBy 9
+  unfolding actOf madeReply
+  act-by-9 t = rw (← e, t) (record { answered = refl; bench = refl; nameList = refl; countList = refl; buffer = refl })
+
+  module _ (t : r ≡ false) (q : Bool) (f : q ≡ shortLists (lentAs names counts)) where
+    pub act-by-8 : q ≡ true → RefusedBy 8
+    unfolding actOf madeReply
+    act-by-8 u = rw (← e, t, ← f, u) (record { answered = refl; bench = refl; nameList = refl; countList = refl; buffer = refl })
+
+    module _ (u : q ≡ false) where
+      pub act-by-11 : length out < mostBytes → RefusedBy 11
+      unfolding actOf madeReply
+      act-by-11 l = rw (← e, t, ← f, u, lt-ltb (length out) mostBytes l) (record { answered = refl; bench = refl; nameList = refl; countList = refl; buffer = refl })
+
+      module _ (l : mostBytes ≤ length out) (i : Bool) (g : i ≡ idle b) where
+        pub act-by-22 : i ≡ true → RefusedBy 22
+        unfolding actOf madeReply
+        act-by-22 v =
+            rw (← e, t, ← f, u, le-ltb (length out) mostBytes l, ← g, v)
+            (record { answered = refl; bench = refl; nameList = refl; countList = refl; buffer = refl })
+
+        pub acts-by : (x : Acted) (ns cs o : List ℕ) → i ≡ false
+            → Acts (actedOf (over (stateOf b names counts)) block priority out (viewOf (beatOf b)) (actAt (placeIn (beatOf b)))) x ns cs o
+            → Acts (actOf (stateOf b names counts) block priority out) x ns cs o
+        unfolding actOf
+        acts-by x ns cs o v h = rw (← e, t, ← f, u, le-ltb (length out) mostBytes l, ← g, v) h

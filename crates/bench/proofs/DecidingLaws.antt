@@ -1,0 +1,139 @@
+-- Deciding and the snapshots, case by case: what was found, and so what is left. Assumes nothing.
+use Prim.Native.Nat.{ℕ, _+_, _≤_, _<_}
+use native.Mathlib.Omega.{arith}
+use mathlib.Core.Bool.{Bool, true, false, _&&_}
+use mathlib.Core.List.{List}
+use mathlib.Core.Option.{Option, some, none}
+use mathlib.Core.Path.{_≡_, refl, sym, ap, _∙_}
+use borrow.Author.Tests.{le-leb, lt-leb, ltb-false}
+use lib.Dec.{leb, ltb}
+use lib.ListN.{length}
+use Rattle.message.specs.Limits.{mostBlocks}
+use Rattle.message.specs.Logs.{Log, isPrefix}
+use Rattle.message.specs.Store.{logAt, within, prefixAt, Stores, copyOf}
+use Rattle.message.proofs.TestLaws.{or-false}
+use Rattle.message.proofs.ListedLaws.{length-at, of-within}
+use Rattle.message.proofs.Inside.{prefix-inside, stored-inside}
+use Rattle.agreement.specs.Record.{withOne, withTwo}
+use Rattle.agreement.specs.declared.Agreement.{Agreement}
+use Rattle.bench.specs.Layout.{decidedPlace, leastLent, shortLists}
+use Rattle.bench.specs.Calendar.{lastView, deciding}
+use Rattle.bench.specs.Calls.{State}
+use Rattle.bench.specs.Record.{agreementOf, withAgreement, withDecided, withParted}
+use Rattle.bench.specs.ByRecord.{decisionOf, settled, snappedOne, snappedTwo, changed}
+use Rattle.bench.specs.Answers.{lentAs, stateOf}
+use Rattle.bench.specs.Steps.{Before, Finds, Leaves, Snaps}
+use Rattle.bench.specs.declared.Bench.{Bench}
+use Rattle.bench.specs.declared.seeing.Found.{Found}
+use Rattle.bench.specs.declared.seeing.Found.the-variants.{At, Nowhere}
+
+-- ---- a log of k blocks at place a is decided
+
+module _ (b : Bench) (names counts : List ℕ) (a k : ℕ) (few : b .decided ≤ mostBlocks) (lists : shortLists (lentAs names counts) ≡ false) (before : Before a k) where
+  long : (leastLent ≤ length names) × (leastLent ≤ length counts)
+  long =
+      let e = or-false (ltb (length names) leastLent) (ltb (length counts) leastLent) lists in
+      (ltb-false (length names) leastLent (e .0), ltb-false (length counts) leastLent (e .1))
+
+  -- the decided log, what is decided, and the place it goes to lie within the lists
+  decided-within : within names counts decidedPlace (b .decided) ≡ true
+  decided-within = of-within {names = names} {counts = counts} (record { few = few; inNames = omega (arith, long .0); inCounts = omega (arith, long .1) })
+
+  new-within : within names counts a k ≡ true
+  new-within = of-within {names = names} {counts = counts} (record { few = before .1; inNames = omega (arith, long .0, before .0); inCounts = omega (arith, long .1, before .0) })
+
+  room-within : within names counts decidedPlace k ≡ true
+  room-within = of-within {names = names} {counts = counts} (record { few = before .1; inNames = omega (arith, long .0, before .1); inCounts = omega (arith, long .1, before .1) })
+
+  abbrev newLog : Log
+  newLog = logAt names counts a k
+
+  abbrev oldLog : Log
+  oldLog = logAt names counts decidedPlace (b .decided)
+
+  abbrev After : Bench → List ℕ → List ℕ → Type 0
+  After = Leaves (settled (stateOf b names counts) (some newLog))
+
+  module _ (r : Bool) (e : r ≡ prefixAt names counts decidedPlace (b .decided) a k) where
+    extends-is : r ≡ isPrefix oldLog newLog
+    extends-is = e ∙ prefix-inside names counts decidedPlace (b .decided) a k decided-within new-within
+
+    -- it extends the decided log, and replaces it
+    pub settle-extends : r ≡ true → (done : Bool) (ns cs : List ℕ) → Stores (copyOf names counts a decidedPlace k) done ns cs → After (withDecided b k) ns cs
+    unfolding settled
+    settle-extends t done ns cs s =
+        let ok : (leb (a + k) decidedPlace && within names counts decidedPlace k) ≡ true = rw (le-leb (a + k) decidedPlace (before .0), room-within) in
+        let w = stored-inside (leb (a + k) decidedPlace && within names counts decidedPlace k) names counts decidedPlace newLog done ns cs ok s in
+        rw (sym extends-is ∙ t) (record { bench = rw (length-at names counts a k) refl; nameList = w .1 .0; countList = w .1 .1 })
+
+    module _ (f : r ≡ false) (q : Bool) (g : q ≡ prefixAt names counts a k decidedPlace (b .decided)) where
+      covered-is : q ≡ isPrefix newLog oldLog
+      covered-is = g ∙ prefix-inside names counts a k decidedPlace (b .decided) new-within decided-within
+
+      -- it is a prefix of it
+      pub settle-stays : q ≡ true → After b names counts
+      unfolding settled
+      settle-stays t = rw (sym extends-is ∙ f, sym covered-is ∙ t) (record { bench = refl; nameList = refl; countList = refl })
+
+      -- they conflict
+      pub settle-parts : q ≡ false → After (withParted b) names counts
+      unfolding settled
+      settle-parts t = rw (sym extends-is ∙ f, sym covered-is ∙ t) (record { bench = refl; nameList = refl; countList = refl })
+
+-- ---- the decision, where one is found
+
+module _ (o : Option Log) (names counts : List ℕ) (found : Found) (f : Finds o names counts found) where
+  -- settle asks that it ends before the decided log's place
+  pub found-before : (a k : ℕ) → found ≡ At a k → Before a k
+  found-before a k e = let h = f .before in rw e at h
+
+  module _ (b : Bench) where
+    pub decide-none : found ≡ Nowhere → Leaves (settled (stateOf b names counts) o) b names counts
+    unfolding settled
+    decide-none e =
+        let n : none ≡ o = let h = f .log in rw e at h in
+        rw (← n) (record { bench = refl; nameList = refl; countList = refl })
+
+    pub decide-some : (a k : ℕ) (c : Bench) (ns cs : List ℕ) → found ≡ At a k → Leaves (settled (stateOf b names counts) (some (logAt names counts a k))) c ns cs
+        → Leaves (settled (stateOf b names counts) o) c ns cs
+    decide-some a k c ns cs e l = let n : some (logAt names counts a k) ≡ o = let h = f .log in rw e at h in rw (← n) l
+
+-- ---- snapshots
+
+module _ (b : Bench) (v : ℕ) where
+  -- past the last view nothing is snapped
+  pub snap-one-past : lastView < v → Snaps (snappedOne v) b b
+  unfolding snappedOne
+  snap-one-past h = record { whole = λ names counts. rw (lt-leb v lastView h) refl }
+
+  pub snap-two-past : lastView < v → Snaps (snappedTwo v) b b
+  unfolding snappedTwo
+  snap-two-past h = record { whole = λ names counts. rw (lt-leb v lastView h) refl }
+
+  module _ (g h : Agreement) (c : Bench) (early : v ≤ lastView) (e : g ≡ agreementOf b v) (s : c ≡ withAgreement b v h) where
+    pub snap-one-taken : h ≡ withOne g → Snaps (snappedOne v) b c
+    unfolding snappedOne
+    snap-one-taken t = record { whole = λ names counts. rw (le-leb v lastView early, s, t, e) refl }
+
+    pub snap-two-taken : h ≡ withTwo g → Snaps (snappedTwo v) b c
+    unfolding snappedTwo
+    snap-two-taken t = record { whole = λ names counts. rw (le-leb v lastView early, s, t, e) refl }
+
+-- ---- it decides first, and then takes its snapshot
+
+-- record and lists together
+state-is : (t : State) (b : Bench) (names counts : List ℕ) → Leaves t b names counts → stateOf b names counts ≡ t
+state-is t b names counts l i = record { bench = l .bench i; lent = record { names = l .nameList i; counts = l .countList i } }
+
+pub close-leaves : (b : Bench) (names counts : List ℕ) (v : ℕ) (c r : Bench) (ns cs : List ℕ)
+    → Leaves (settled (stateOf b names counts) (decisionOf (stateOf b names counts) v)) c ns cs
+    → Snaps (snappedOne v) c r
+    → Leaves (changed (stateOf b names counts) v deciding) r ns cs
+unfolding changed
+close-leaves b names counts v c r ns cs l s =
+    let e = s .whole ns cs ∙ ap (snappedOne v) (state-is (settled (stateOf b names counts) (decisionOf (stateOf b names counts) v)) c ns cs l) in
+    record {
+      bench = ap (λ (x : State). x .bench) e;
+      nameList = ap (λ (x : State). x .lent .names) e;
+      countList = ap (λ (x : State). x .lent .counts) e;
+    }

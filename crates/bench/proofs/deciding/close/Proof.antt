@@ -1,0 +1,23 @@
+use Rattle.bench.proofs.DecidingLaws.{close-leaves}
+use borrow.Author.Needs.{needs}
+use Rattle.bench.proofs.deciding.close.Statement.{statement}
+use Rattle.bench.proofs.deciding.close.Tie as tie
+
+decide-requires : tie.Need-decide-requires
+decide-requires c κs = search needs
+
+snap-one-requires : tie.Need-snap-one-requires
+snap-one-requires c κs = search needs
+
+same-length : tie.Need-same-length
+same-length c = search needs
+
+same-length-2 : tie.Need-same-length-2
+same-length-2 c = search needs
+
+returns : tie.Need-returns
+returns c = search close-leaves
+
+pub close-spec : {M : Type 1} → statement M
+close-spec =
+    tie.close (tie.spec decide-requires snap-one-requires same-length same-length-2 returns)

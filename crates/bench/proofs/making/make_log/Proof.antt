@@ -1,0 +1,27 @@
+use Rattle.bench.proofs.MakingLaws.{log-acts}
+use borrow.Author.Needs.{needs}
+use Rattle.bench.proofs.making.make_log.Statement.{statement}
+use Rattle.bench.proofs.making.make_log.Tie as tie
+
+write-log-requires : tie.Need-write-log-requires
+write-log-requires c κs = search needs
+
+file-log-requires : tie.Need-file-log-requires
+file-log-requires c κs = search needs
+
+same-length : tie.Need-same-length
+same-length c = search needs
+
+same-length-2 : tie.Need-same-length-2
+same-length-2 c = search needs
+
+same-length-3 : tie.Need-same-length-3
+same-length-3 c = search needs
+
+returns : tie.Need-returns
+returns c = search log-acts
+
+pub make-log-spec : {M : Type 1} → statement M
+make-log-spec =
+    tie.close
+    (tie.spec write-log-requires file-log-requires same-length same-length-2 same-length-3 returns)

@@ -1,0 +1,83 @@
+// Deciding, and the snapshots.
+ghost use mathlib.Core.Path.{_≡_};
+ghost use mathlib.Core.Option.{some};
+ghost use mathlib.Core.Bool.{false};
+ghost use Prim.Native.Nat.{_≤_};
+ghost use Rattle.message.specs.Limits.{mostBlocks};
+ghost use Rattle.message.specs.Store.{logAt};
+ghost use Rattle.bench.specs.Layout.{shortLists};
+ghost use Rattle.bench.specs.Calendar.{deciding};
+ghost use Rattle.bench.specs.ByRecord.{decisionOf, settled, snappedOne, snappedTwo, changed};
+ghost use Rattle.bench.specs.Answers.{lentAs, stateOf};
+ghost use Rattle.bench.specs.Steps.{Before, Leaves, Snaps};
+use super::Bench;
+use super::DECIDED_PLACE;
+use super::LAST_VIEW;
+use super::record::agreement_of;
+use super::record::with_agreement;
+use super::seeing::Found;
+use super::seeing::decision;
+use message::store::copy;
+use message::store::is_prefix;
+
+// The log of the blocks at place `at` is decided: it extends the decided log, is a prefix of it, or the mark is set.
+fn settle(b: Bench, names: &mut [u64], counts: &mut [u16], at: usize, blocks: u8) -> Bench
+    requires { ⌜ (b .decided ≤ mostBlocks) × ((shortLists (lentAs (now names) (now counts)) ≡ false) × Before at blocks) ⌝ }
+    ensures { λ r. ⌜ Leaves (settled (stateOf b (now (names .entry)) (now (counts .entry))) (some (logAt (now (names .entry)) (now (counts .entry)) at blocks))) r (now (names .exit)) (now (counts .exit)) ⌝ }
+{
+    let old = b.decided as usize;
+    let new = blocks as usize;
+    let mut c = b;
+    if is_prefix(names, counts, DECIDED_PLACE, old, at, new) {
+        copy(names, counts, at, DECIDED_PLACE, new);
+        c.decided = blocks;
+        return c;
+    }
+    if is_prefix(names, counts, at, new, DECIDED_PLACE, old) {
+        return b;
+    }
+    c.parted = true;
+    c
+}
+
+// The longest log with grade 2 of the view before v, where there is one, is decided.
+fn decide(b: Bench, names: &mut [u64], counts: &mut [u16], v: u32) -> Bench
+    requires { ⌜ (b .decided ≤ mostBlocks) × (shortLists (lentAs (now names) (now counts)) ≡ false) ⌝ }
+    ensures { λ r. ⌜ Leaves (settled (stateOf b (now (names .entry)) (now (counts .entry))) (decisionOf (stateOf b (now (names .entry)) (now (counts .entry))) v)) r (now (names .exit)) (now (counts .exit)) ⌝ }
+{
+    let Found::At(at, blocks) = decision(b, names, counts, v) else {
+        return b;
+    };
+    settle(b, names, counts, at, blocks)
+}
+
+// Snapshot one of view v is taken, where there is such a view.
+fn snap_one(b: Bench, v: u32) -> Bench
+    ensures { λ r. ⌜ Snaps (snappedOne v) b r ⌝ }
+{
+    if LAST_VIEW < v {
+        return b;
+    }
+    let g = agreement_of(b, v);
+    with_agreement(b, v, agreement::snap_one(g))
+}
+
+// Snapshot two.
+pub(crate) fn snap_two(b: Bench, v: u32) -> Bench
+    ensures { λ r. ⌜ Snaps (snappedTwo v) b r ⌝ }
+{
+    if LAST_VIEW < v {
+        return b;
+    }
+    let g = agreement_of(b, v);
+    with_agreement(b, v, agreement::snap_two(g))
+}
+
+// The deciding act of view v: it decides first, and then takes its snapshot.
+pub(crate) fn close(b: Bench, names: &mut [u64], counts: &mut [u16], v: u32) -> Bench
+    requires { ⌜ (b .decided ≤ mostBlocks) × (shortLists (lentAs (now names) (now counts)) ≡ false) ⌝ }
+    ensures { λ r. ⌜ Leaves (changed (stateOf b (now (names .entry)) (now (counts .entry))) v deciding) r (now (names .exit)) (now (counts .exit)) ⌝ }
+{
+    let c = decide(b, names, counts, v);
+    snap_one(c, v)
+}
