@@ -6,7 +6,8 @@ pub mod LongestLaws
 pub mod Starred
 -- The answers of the code, read as document 01's:
 pub mod AnswerLaws
--- Filing, as one rule of what is kept of a sender:
+-- Filing: what it looks at in the bytes, and the one rule of what is kept of a sender:
+pub mod BytesLaws
 pub mod KeptLaws
 pub mod ElsewhereLaws
 -- What the messages heard come to; a record's grades and vote by what it keeps; where a log that is read comes from:

@@ -1,22 +1,19 @@
 -- Act, case by case, as the code finds it: its refusals, and the row of the calendar. Assumes nothing.
-use Prim.Native.Nat.{ℕ, zero, suc, _+_, _<_, _≤_}
+use Prim.Native.Nat.{ℕ, zero, suc, _<_, _≤_}
 use mathlib.Core.List.{List}
-use mathlib.Core.Bool.{Bool, true, false, _||_}
-use mathlib.Core.Path.{_≡_, refl, ap, sym, subst, _∙_}
-use lib.Dec.{ltb}
+use mathlib.Core.Bool.{Bool, true, false}
+use mathlib.Core.Path.{_≡_, refl, ap, sym, subst}
 use lib.ListN.{length}
-use borrow.Author.Tests.{lt-ltb, le-ltb, ltb-false}
-use Rattle.message.specs.Limits.{mostBlocks}
+use borrow.Author.Tests.{lt-ltb, le-ltb}
 use Rattle.message.specs.Logs.{Block}
-use Rattle.message.proofs.TestLaws.{or-false}
-use Rattle.bench.specs.Layout.{mostBytes, shortLists, outOfRange}
-use Rattle.bench.specs.Calendar.{lastBeat, viewOf, placeIn, Act, proposing, voting, deciding, snapping, actAt}
+use Rattle.bench.specs.Layout.{mostBytes, shortLists}
+use Rattle.bench.specs.Calendar.{viewOf, placeIn, Act, proposing, voting, deciding, snapping, actAt}
 use Rattle.bench.specs.Calls.{State}
 use Rattle.bench.specs.Acts.{makes}
-use Rattle.bench.specs.Record.{beatOf, idle, withGatheringOver, beyondAgreement, beyondProposals, beyond}
+use Rattle.bench.specs.Record.{beatOf, idle, withGatheringOver, beyond}
 use Rattle.bench.specs.ByRecord.{settled, snappedTwo, changed, actedOf, over, actOf}
 use Rattle.bench.specs.Answers.{lentAs, stateOf, madeReply, Acts}
-use Rattle.bench.specs.Steps.{Tested, noBlock, Leaves, Snaps}
+use Rattle.bench.specs.Steps.{noBlock, Leaves, Snaps}
 use Rattle.bench.specs.declared.Bench.{Bench}
 use Rattle.bench.specs.declared.Acted.{Acted}
 use Rattle.bench.specs.declared.Made.the-variants as makings
@@ -30,24 +27,6 @@ after-second (suc (suc zero)) a b c = absurd (c refl)
 after-second (suc (suc (suc p))) a b c = refl
 
 module _ (b : Bench) (names counts out : List ℕ) where
-  -- a gathering that is over does not matter to what was tested
-  pub tested-over : Tested (stateOf b names counts) out → Tested (stateOf (withGatheringOver b) names counts) out
-  unfolding beyond
-  tested-over t = record { limits = t .limits; lists = t .lists; room = t .room }
-
-  -- what was tested of the decided log, and of the lists
-  pub decided-short : Tested (stateOf b names counts) out → b .decided ≤ mostBlocks
-  unfolding beyond
-  decided-short t =
-      let filed : Bool = beyondAgreement (b .n) (b .even) || (beyondAgreement (b .n) (b .odd) || beyondProposals (b .n) (b .proposals)) in
-      let long : Bool = ltb mostBlocks (b .decided) in
-      let late : Bool = ltb (lastBeat + 1) (b .next) in
-      let p = or-false (outOfRange (b .n) (b .own)) (late || (long || filed)) (t .limits) .1 in
-      ltb-false mostBlocks (b .decided) (or-false long filed (or-false late (long || filed) p .1) .0)
-
-  pub lists-long : Tested (stateOf b names counts) out → shortLists (lentAs names counts) ≡ false
-  lists-long t = t .lists
-
   module _ (block : Block) (priority beat : ℕ) (x : Acted) (ns cs o : List ℕ) (h : beat ≡ beatOf b) where
     -- the act of this row at the beat of the gathering
     row : (a : Act) → actAt (placeIn beat) ≡ a → Acts (actedOf (over (stateOf b names counts)) block priority out (viewOf beat) a) x ns cs o
@@ -100,11 +79,7 @@ module _ (b : Bench) (names counts out : List ℕ) where
     snapped-two p q r f =
         row block priority beat (record { answer = makings.Nothing; bench = c }) names counts out h snapping (after-second (placeIn beat) p q r) (snaps f)
 
--- ---- Act's refusals, and what is tested where none of them is given
-
-pub act-asks : (b : Bench) (names counts out : List ℕ) (r q : Bool) → r ≡ beyond b → r ≡ false → q ≡ shortLists (lentAs names counts) → q ≡ false
-    → mostBytes ≤ length out → Tested (stateOf b names counts) out
-act-asks b names counts out r q e t f u l = record { limits = sym e ∙ t; lists = sym f ∙ u; room = le-ltb (length out) mostBytes l }
+-- ---- Act's refusals
 
 module _ (b : Bench) (names counts out : List ℕ) (block : Block) (priority : ℕ) (r : Bool) (e : r ≡ beyond b) where
   -- refused by k: all is as it was

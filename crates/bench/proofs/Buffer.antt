@@ -32,13 +32,14 @@ use Rattle.agreement.proofs.SetLaws.{weigh-none}
 use Rattle.agreement.proofs.ReadingLaws.{grade-supporter}
 use Rattle.agreement.proofs.LongestLaws.{longest-iff, record-heard}
 use Rattle.agreement.proofs.GradeSources.{vote-from}
-use Rattle.bench.specs.Layout.{logsPlace, proposalsPlace, mostBytes, shortLists, outOfRange}
-use Rattle.bench.specs.Calendar.{lastBeat, viewOf, placeIn, Act, proposing, voting, deciding, snapping, actAt}
+use Rattle.bench.specs.Layout.{logsPlace, proposalsPlace, mostBytes, shortLists}
+use Rattle.bench.specs.Calendar.{viewOf, placeIn, Act, proposing, voting, deciding, snapping, actAt}
 use Rattle.bench.specs.Calls.{Reply, refused, done, took, acted, State}
 use Rattle.bench.specs.Acts.{mayPropose, propose, vote, isView, inViews, makes, outAfter}
-use Rattle.bench.specs.Record.{agreementOf, proposalsOf, beatOf, idle, tooLong, badProposer, anyPlace, beyondAgreement, beyondProposals, beyond}
+use Rattle.bench.specs.Record.{agreementOf, proposalsOf, beatOf, idle, tooLong, badProposer, anyPlace, beyondProposals, beyond}
 use Rattle.bench.specs.ByRecord.{lockOf, seenOf, over, actedOf, actOf}
 use Rattle.bench.specs.declared.Bench.{Bench}
+use Rattle.bench.proofs.TestedLaws.{within-limits}
 use Rattle.bench.proofs.Fine.{no-place}
 use Rattle.bench.proofs.FineAgreements.{getD-all}
 
@@ -111,15 +112,6 @@ module _ (b : Bench) (e : beyondProposals (b .n) (b .proposals) ≡ false) where
       either (eqb (b .proposals .view) v)
       (λ t. rw t (ltb-false mostBlocks (getD (b .proposals .lengths) i 0) one))
       (λ t. rw t (let z = getD-all {A = ℕ} mostSenders i 0 in omega arith))
-
-pub within-proposals : (b : Bench) → beyond b ≡ false → beyondProposals (b .n) (b .proposals) ≡ false
-unfolding beyond
-within-proposals b e =
-    let c = or-false (outOfRange (b .n) (b .own)) _ e .1 in
-    let d = or-false (ltb (lastBeat + 1) (b .next)) _ c .1 in
-    let f = or-false (ltb mostBlocks (b .decided)) _ d .1 in
-    let g = or-false (beyondAgreement (b .n) (b .even)) _ f .1 in
-    or-false (beyondAgreement (b .n) (b .odd)) _ g .1
 
 -- ---- so has what is made
 
@@ -201,7 +193,7 @@ module _ (s : State) (block : Block) (priority : ℕ) (out : List ℕ) where
       let v = viewOf (beatOf (s .bench)) in
       let a = actAt (placeIn (beatOf (s .bench))) in
       rw (e, f, g, h) (fits out (makes (s .bench .own) v block priority (seenOf (over s) v) a)
-      (makes-short (over s) (within-proposals (s .bench) e) (s .bench .own) v block priority a)
+      (makes-short (over s) (within-limits (s .bench) e .1) (s .bench .own) v block priority a)
       (ltb-false (length out) mostBytes g))))))
 
   -- nothing made, refused or not: the buffer handed in

@@ -10,7 +10,7 @@ use lib.Dec.{eqb, leb, ltb}
 use lib.ListN.{length}
 use Rattle.message.specs.Numbers.{AllBelow}
 use Rattle.message.specs.Message.{Content, Meaning, logOf, Reading, refused as unread, means, readOf}
-use Rattle.message.proofs.TestLaws.{either, or-false}
+use Rattle.message.proofs.TestLaws.{either}
 use Rattle.message.proofs.ListedLaws.{log-empty}
 use Rattle.message.proofs.Acceptance.{accepted as read-accepted, said-in}
 use Rattle.message.proofs.Codec.{read-writable}
@@ -26,6 +26,7 @@ use Rattle.bench.specs.History.{History, fresh, orZero, beatNow, notAbov
 use Rattle.bench.specs.Record.{freshBench, agreementOf, proposalsOf, beatOf, notAboveLast, idle, beyond}
 use Rattle.bench.specs.ByRecord.{refuse, begun, beginOf, fileMessage, taken, receives, receiveOf}
 use Rattle.bench.specs.declared.Bench.{Bench}
+use Rattle.bench.proofs.TestedLaws.{lists-roomy}
 use Rattle.bench.proofs.Fine.{not-beyond}
 use Rattle.bench.proofs.FineBench.{fresh-fine, begun-fine}
 use Rattle.bench.proofs.Slots.{empty-of-view, begun-open, begun-proposals-open}
@@ -183,7 +184,7 @@ pub open-tie : (n own : ℕ) (l : Lent) → outOfRange n own ≡ false → short
     → Tie n own (record { bench = freshBench n own; lent = l }) fresh
 unfolding standIn agreementOf proposalsOf
 open-tie n own l r h names counts =
-    let long = or-false (ltb (length (l .names)) leastLent) (ltb (length (l .counts)) leastLent) h in
+    let long = lists-roomy l h in
     let since : Since 0 fresh = record { logs = λ m i. absurd (List·Memᴰ·not-nil i); proposals = λ m i. absurd (List·Memᴰ·not-nil i); acts = λ d i. absurd (List·Memᴰ·not-nil i) } in
     record {
       n-is = refl;
@@ -191,8 +192,8 @@ open-tie n own l r h names counts =
       fine = fresh-fine n own r;
       roomy =
           record {
-            names = ltb-false (length (l .names)) leastLent (long .0);
-            counts = ltb-false (length (l .counts)) leastLent (long .1);
+            names = long .0;
+            counts = long .1;
             name-bound = names;
             count-bound = counts;
           };

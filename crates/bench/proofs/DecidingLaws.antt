@@ -1,49 +1,42 @@
 -- Deciding and the snapshots, case by case: what was found, and so what is left. Assumes nothing.
-use Prim.Native.Nat.{ℕ, _+_, _≤_, _<_}
-use native.Mathlib.Omega.{arith}
+use Prim.Native.Nat.{ℕ, _+_, _-_, _≤_, _<_}
 use mathlib.Core.Bool.{Bool, true, false, _&&_}
 use mathlib.Core.List.{List}
-use mathlib.Core.Option.{Option, some, none}
+use mathlib.Core.Option.{Option, some}
 use mathlib.Core.Path.{_≡_, refl, sym, ap, _∙_}
-use borrow.Author.Tests.{le-leb, lt-leb, ltb-false}
-use lib.Dec.{leb, ltb}
-use lib.ListN.{length}
+use borrow.Author.Tests.{le-leb, lt-leb}
+use lib.Dec.{leb}
 use Rattle.message.specs.Limits.{mostBlocks}
 use Rattle.message.specs.Logs.{Log, isPrefix}
 use Rattle.message.specs.Store.{logAt, within, prefixAt, Stores, copyOf}
-use Rattle.message.proofs.TestLaws.{or-false}
-use Rattle.message.proofs.ListedLaws.{length-at, of-within}
+use Rattle.message.proofs.ListedLaws.{length-at}
 use Rattle.message.proofs.Inside.{prefix-inside, stored-inside}
 use Rattle.agreement.specs.Record.{withOne, withTwo}
+use Rattle.agreement.specs.Limits.{placeOf}
+use Rattle.agreement.specs.Grades.{Gives}
 use Rattle.agreement.specs.declared.Agreement.{Agreement}
-use Rattle.bench.specs.Layout.{decidedPlace, leastLent, shortLists}
+use Rattle.agreement.specs.declared.Grade.{Grade}
+use Rattle.agreement.specs.declared.Grade.the-variants.{Longest, Nothing}
+use Rattle.bench.specs.Layout.{logsPlace, decidedPlace, shortLists}
 use Rattle.bench.specs.Calendar.{lastView, deciding}
 use Rattle.bench.specs.Calls.{State}
 use Rattle.bench.specs.Record.{agreementOf, withAgreement, withDecided, withParted}
 use Rattle.bench.specs.ByRecord.{decisionOf, settled, snappedOne, snappedTwo, changed}
 use Rattle.bench.specs.Answers.{lentAs, stateOf}
-use Rattle.bench.specs.Steps.{Before, Finds, Leaves, Snaps}
+use Rattle.bench.specs.Steps.{Before, Leaves, Snaps}
 use Rattle.bench.specs.declared.Bench.{Bench}
-use Rattle.bench.specs.declared.seeing.Found.{Found}
-use Rattle.bench.specs.declared.seeing.Found.the-variants.{At, Nowhere}
+use Rattle.bench.proofs.SeeingLaws.{seen-none, seen-at}
+use Rattle.bench.proofs.TestedLaws.{before-within, decided-within}
 
 -- ---- a log of k blocks at place a is decided
 
 module _ (b : Bench) (names counts : List ℕ) (a k : ℕ) (few : b .decided ≤ mostBlocks) (lists : shortLists (lentAs names counts) ≡ false) (before : Before a k) where
-  long : (leastLent ≤ length names) × (leastLent ≤ length counts)
-  long =
-      let e = or-false (ltb (length names) leastLent) (ltb (length counts) leastLent) lists in
-      (ltb-false (length names) leastLent (e .0), ltb-false (length counts) leastLent (e .1))
-
-  -- the decided log, what is decided, and the place it goes to lie within the lists
-  decided-within : within names counts decidedPlace (b .decided) ≡ true
-  decided-within = of-within {names = names} {counts = counts} (record { few = few; inNames = omega (arith, long .0); inCounts = omega (arith, long .1) })
+  -- the decided log and what is decided lie within the lists
+  old-within : within names counts decidedPlace (b .decided) ≡ true
+  old-within = decided-within (lentAs names counts) lists (b .decided) few
 
   new-within : within names counts a k ≡ true
-  new-within = of-within {names = names} {counts = counts} (record { few = before .1; inNames = omega (arith, long .0, before .0); inCounts = omega (arith, long .1, before .0) })
-
-  room-within : within names counts decidedPlace k ≡ true
-  room-within = of-within {names = names} {counts = counts} (record { few = before .1; inNames = omega (arith, long .0, before .1); inCounts = omega (arith, long .1, before .1) })
+  new-within = before-within (lentAs names counts) lists a k before
 
   abbrev newLog : Log
   newLog = logAt names counts a k
@@ -56,19 +49,20 @@ module _ (b : Bench) (names counts : List ℕ) (a k : ℕ) (few : b .decided ≤
 
   module _ (r : Bool) (e : r ≡ prefixAt names counts decidedPlace (b .decided) a k) where
     extends-is : r ≡ isPrefix oldLog newLog
-    extends-is = e ∙ prefix-inside names counts decidedPlace (b .decided) a k decided-within new-within
+    extends-is = e ∙ prefix-inside names counts decidedPlace (b .decided) a k old-within new-within
 
     -- it extends the decided log, and replaces it
     pub settle-extends : r ≡ true → (done : Bool) (ns cs : List ℕ) → Stores (copyOf names counts a decidedPlace k) done ns cs → After (withDecided b k) ns cs
     unfolding settled
     settle-extends t done ns cs s =
-        let ok : (leb (a + k) decidedPlace && within names counts decidedPlace k) ≡ true = rw (le-leb (a + k) decidedPlace (before .0), room-within) in
+        let ok : (leb (a + k) decidedPlace && within names counts decidedPlace k) ≡ true =
+        rw (le-leb (a + k) decidedPlace (before .0), decided-within (lentAs names counts) lists k (before .1)) in
         let w = stored-inside (leb (a + k) decidedPlace && within names counts decidedPlace k) names counts decidedPlace newLog done ns cs ok s in
         rw (sym extends-is ∙ t) (record { bench = rw (length-at names counts a k) refl; nameList = w .1 .0; countList = w .1 .1 })
 
     module _ (f : r ≡ false) (q : Bool) (g : q ≡ prefixAt names counts a k decidedPlace (b .decided)) where
       covered-is : q ≡ isPrefix newLog oldLog
-      covered-is = g ∙ prefix-inside names counts a k decidedPlace (b .decided) new-within decided-within
+      covered-is = g ∙ prefix-inside names counts a k decidedPlace (b .decided) new-within old-within
 
       -- it is a prefix of it
       pub settle-stays : q ≡ true → After b names counts
@@ -80,23 +74,21 @@ module _ (b : Bench) (names counts : List ℕ) (a k : ℕ) (few : b .decided ≤
       unfolding settled
       settle-parts t = rw (sym extends-is ∙ f, sym covered-is ∙ t) (record { bench = refl; nameList = refl; countList = refl })
 
--- ---- the decision, where one is found
+-- ---- the decision, where the grade gives one
 
-module _ (o : Option Log) (names counts : List ℕ) (found : Found) (f : Finds o names counts found) where
+module _ (o : Option Log) (names counts : List ℕ) (v : ℕ) (r : Grade) (w : Gives o names counts (logsPlace (v - 1)) r) where
   -- settle asks that it ends before the decided log's place
-  pub found-before : (a k : ℕ) → found ≡ At a k → Before a k
-  found-before a k e = let h = f .before in rw e at h
+  pub decision-before : (i k at : ℕ) → r ≡ Longest i k → at ≡ placeOf (logsPlace (v - 1)) i → Before at k
+  decision-before i k at e p = seen-at o names counts v r w i k at e p .before
 
   module _ (b : Bench) where
-    pub decide-none : found ≡ Nowhere → Leaves (settled (stateOf b names counts) o) b names counts
+    pub decide-none : r ≡ Nothing → Leaves (settled (stateOf b names counts) o) b names counts
     unfolding settled
-    decide-none e =
-        let n : none ≡ o = let h = f .log in rw e at h in
-        rw (← n) (record { bench = refl; nameList = refl; countList = refl })
+    decide-none e = rw (← seen-none o names counts v r w e .log) (record { bench = refl; nameList = refl; countList = refl })
 
-    pub decide-some : (a k : ℕ) (c : Bench) (ns cs : List ℕ) → found ≡ At a k → Leaves (settled (stateOf b names counts) (some (logAt names counts a k))) c ns cs
-        → Leaves (settled (stateOf b names counts) o) c ns cs
-    decide-some a k c ns cs e l = let n : some (logAt names counts a k) ≡ o = let h = f .log in rw e at h in rw (← n) l
+    pub decide-some : (i k at : ℕ) (c : Bench) (ns cs : List ℕ) → r ≡ Longest i k → at ≡ placeOf (logsPlace (v - 1)) i
+        → Leaves (settled (stateOf b names counts) (some (logAt names counts at k))) c ns cs → Leaves (settled (stateOf b names counts) o) c ns cs
+    decide-some i k at c ns cs e p l = rw (← seen-at o names counts v r w i k at e p .log) l
 
 -- ---- snapshots
 

@@ -16,7 +16,7 @@ use Rattle.message.specs.Logs.{Block, Log, Prefix, namesOf, countsOf}
 use Rattle.message.specs.Message.{Content, Meaning, logMessage, proposalMessage, anyZero, Reading, refused, means, readOf, Writable, WritableMeaning}
 use Rattle.message.proofs.TestLaws.{either, or-false}
 use Rattle.message.proofs.LogLaws.{prefix-iff, names-append, counts-append}
-use Rattle.message.proofs.PartLaws.{append-below}
+use Rattle.message.proofs.PartLaws.{one-below, append-below}
 use Rattle.message.proofs.Codec.{read-writable}
 use Rattle.agreement.specs.Heard.{heardLogs, ProposalHeard, heardProposals, voteAmong}
 use Rattle.agreement.proofs.GradeSources.{GradeSource, gradeNow-source, gradeWith-source, heard-source, vote-from, proposed-source}
@@ -89,15 +89,11 @@ append-good L b s z n c g =
           ∙ rw (g .named, ne-eqb (b .name) 0 z) refl;
       names =
           subst (AllBelow (2 ^ 64)) (sym (names-append L (b ∷ [])))
-          (append-below (2 ^ 64) (namesOf L) (b .name ∷ []) (g .names) (one (2 ^ 64) (b .name) (omega arith) n));
+          (append-below (2 ^ 64) (namesOf L) (b .name ∷ []) (g .names) (one-below (2 ^ 64) (b .name) n));
       counts =
           subst (AllBelow (2 ^ 16)) (sym (counts-append L (b ∷ [])))
-          (append-below (2 ^ 16) (countsOf L) (b .count ∷ []) (g .counts) (one (2 ^ 16) (b .count) (omega arith) c));
+          (append-below (2 ^ 16) (countsOf L) (b .count ∷ []) (g .counts) (one-below (2 ^ 16) (b .count) c));
     }
-  where
-    one : (B x : ℕ) → 0 < B → x < B → AllBelow B (x ∷ [])
-    one B x z h zero = h
-    one B x z h (suc i) = z
 
 -- ---- what an act sees
 

@@ -8,9 +8,10 @@ pub mod FineAgreements
 pub mod FineProposals
 pub mod FineBench
 pub mod Slots
--- The refusals, and the outgoing buffer, of every record:
+-- The refusals, what holds where none is given, and the outgoing buffer, of every record:
 pub mod ReadRefusals
 pub mod Refusals
+pub mod TestedLaws
 pub mod Buffer
 pub mod Never
 -- The tie between record and history, kept by every call:
@@ -31,6 +32,7 @@ pub mod Replies
 pub mod CallCases
 pub mod SeeingLaws
 pub mod DecidingLaws
+pub mod WrittenLaws
 pub mod MakingLaws
 pub mod ActCases
 -- Worked examples:

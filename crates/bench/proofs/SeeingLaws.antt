@@ -5,19 +5,17 @@ use mathlib.Core.Bool.{Bool, true, false, not, _&&_, false≢true}
 use mathlib.Core.List.{List, []}
 use mathlib.Core.Option.{Option, some}
 use mathlib.Core.Path.{_≡_, refl, sym, ap, subst, _∙_}
-use borrow.Author.Tests.{ltb-false, le-ltb}
-use lib.Dec.{ltb}
+use borrow.Author.Tests.{le-ltb}
 use lib.ListN.{length, getD}
 use Rattle.message.specs.Limits.{mostBlocks}
 use Rattle.message.specs.Choice.{pick}
 use Rattle.message.specs.Logs.{Log}
 use Rattle.message.specs.Store.{logAt, within, prefixAt}
-use Rattle.message.proofs.TestLaws.{or-false}
-use Rattle.message.proofs.ListedLaws.{Within, of-within, log-empty}
+use Rattle.message.proofs.ListedLaws.{log-empty}
 use Rattle.agreement.specs.Limits.{mostSenders, span, placeOf}
 use Rattle.agreement.specs.Sets.{member}
 use Rattle.agreement.specs.Record.{filedLog, lacksRoom}
-use Rattle.agreement.specs.Grades.{gradeZero, gradeOne, gradeTwo, Gives}
+use Rattle.agreement.specs.Grades.{gradeZero, gradeOne, gradeTwo, logOf, Placed, Gives}
 use Rattle.agreement.specs.Kept.{Kept, nothing, only, differing, Proposed, keptProposal}
 use Rattle.agreement.specs.Heard.{proposedLog, orLock}
 use Rattle.agreement.specs.Proposals.{fits, choiceOf, chosen, Chooses}
@@ -29,37 +27,46 @@ use Rattle.agreement.specs.declared.Choice.{Choice}
 use Rattle.agreement.specs.declared.Choice.the-variants.{Proposal, Lock}
 use Rattle.agreement.proofs.ChoiceLaws.{best-place, choice-fits}
 use Rattle.agreement.proofs.RecordLaws.{choice-voted}
-use Rattle.bench.specs.Layout.{logsPlace, proposalsPlace, leastLent, shortLists}
+use Rattle.bench.specs.Layout.{logsPlace, proposalsPlace, decidedPlace, shortLists}
 use Rattle.bench.specs.Calls.{State}
 use Rattle.bench.specs.Record.{agreementOf, proposalsOf, beyond}
 use Rattle.bench.specs.ByRecord.{candidateOf, lockOf, decisionOf, seenOf}
 use Rattle.bench.specs.Answers.{lentAs, stateOf}
-use Rattle.bench.specs.Steps.{foundLog, Before, FoundBefore, Finds, Pointing, Points, ballot, ballotOf}
+use Rattle.bench.specs.Steps.{Finds, ballot, ballotOf}
 use Rattle.bench.specs.declared.Bench.{Bench}
-use Rattle.bench.specs.declared.seeing.Found.{Found}
 use Rattle.bench.specs.declared.seeing.Found.the-variants.{At, Nowhere}
-use Rattle.bench.proofs.Buffer.{proposed-short, within-proposals}
+use Rattle.bench.proofs.TestedLaws.{within-limits, lists-roomy, before-within}
+use Rattle.bench.proofs.Buffer.{proposed-short}
 use Rattle.bench.proofs.Filling.{logs-low}
 
--- ---- a grade's answer, as a place
+-- ---- a grade's answer, as a place in the lists
 
-module _ (grade : Grade) (base : ℕ) where
-  pub points-nowhere : grade ≡ Nothing → Points grade base Nowhere
-  points-nowhere e = rw e (record { log = λ names counts. refl; before = tt })
+ends-before : (base i k at : ℕ) → base + span ≤ decidedPlace → i < mostSenders → k ≤ mostBlocks → at ≡ placeOf base i → at + k ≤ decidedPlace
+ends-before base i k at low few short e = omega arith
 
-  pub points-at : (i k : ℕ) → Pointing grade base → grade ≡ Longest i k → Points grade base (At (base + mostBlocks * i) k)
-  points-at i k p e =
-      let (few, short) : (i < mostSenders) × (k ≤ mostBlocks) = rw e at (p .placed) in
-      let b = p .before in
-      rw e (record { log = λ names counts. refl; before = (omega arith, short) })
+module _ (o : Option Log) (names counts : List ℕ) (v : ℕ) (r : Grade) (w : Gives o names counts (logsPlace (v - 1)) r) where
+  pub seen-none : r ≡ Nothing → Finds o names counts Nowhere
+  seen-none e = record { log = ap (logOf names counts (logsPlace (v - 1))) (sym e) ∙ w .log; before = tt }
+
+  pub seen-at : (i k at : ℕ) → r ≡ Longest i k → at ≡ placeOf (logsPlace (v - 1)) i → Finds o names counts (At at k)
+  seen-at i k at e p =
+      let (few, short) : (i < mostSenders) × (k ≤ mostBlocks) = subst Placed e (w .placed) in
+      let l = logs-low (v - 1) in
+      record {
+        log = ap (λ (a : ℕ). some (logAt names counts a k)) p ∙ ap (logOf names counts (logsPlace (v - 1))) (sym e) ∙ w .log;
+        before = (ends-before (logsPlace (v - 1)) i k at (omega (arith, l)) few short p, short);
+      }
+
+-- the place itself
+pub place-first : (v i : ℕ) → v ≡ 0 → mostBlocks * i ≡ placeOf (logsPlace (v - 1)) i
+place-first v i e = rw e (omega arith)
+
+pub place-later : (v i base : ℕ) → base ≡ logsPlace (v - 1) → base + mostBlocks * i ≡ placeOf (logsPlace (v - 1)) i
+place-later v i base e = ap (λ (x : ℕ). x + mostBlocks * i) e
 
 -- the empty log, for v = 0
-empty-found : (names counts : List ℕ) → Finds (some []) names counts (At 0 0)
-empty-found names counts = record { log = ap some (log-empty names counts 0 0 (omega arith)); before = (omega arith, omega arith) }
-
--- a view's logs stand before the decided log
-pub points-low : (o : Option Log) (names counts : List ℕ) (base u : ℕ) (r : Grade) → base ≡ logsPlace u → Gives o names counts base r → Pointing r base
-points-low o names counts base u r e w = let l = logs-low u in record { placed = w .placed; before = omega arith }
+empty-given : (names counts : List ℕ) (base : ℕ) → Gives (some []) names counts base (Longest 0 0)
+empty-given names counts base = record { log = ap some (log-empty names counts (placeOf base 0) 0 (omega arith)); placed = (omega arith, omega arith) }
 
 -- a proposal that fits is kept: filed, and not set aside
 fits-log : (names counts : List ℕ) (base : ℕ) (g : Proposals) (a k i : ℕ) → fits names counts base g a k i ≡ true
@@ -83,83 +90,75 @@ module _ (b : Bench) (names counts : List ℕ) (v : ℕ) where
   -- ---- the grades of the view before
 
   module _ (e : v ≡ 0) where
-    pub candidate-first : Finds (candidateOf s v) names counts (At 0 0)
+    pub candidate-first : Gives (candidateOf s v) names counts (logsPlace (v - 1)) (Longest 0 0)
     unfolding candidateOf
-    candidate-first = rw e (empty-found names counts)
+    candidate-first = rw e (empty-given names counts (logsPlace 0))
 
-    pub lock-first : Finds (lockOf s v) names counts (At 0 0)
+    pub lock-first : Gives (lockOf s v) names counts (logsPlace (v - 1)) (Longest 0 0)
     unfolding lockOf
-    lock-first = rw e (empty-found names counts)
+    lock-first = rw e (empty-given names counts (logsPlace 0))
 
-    pub decision-first : Finds (decisionOf s v) names counts Nowhere
+    pub decision-first : Gives (decisionOf s v) names counts (logsPlace (v - 1)) Nothing
     unfolding decisionOf
-    decision-first = rw e (record { log = refl; before = tt })
+    decision-first = rw e (record { log = refl; placed = tt })
 
-  module _ (base : ℕ) (g : Agreement) (r : Grade) (f : Found) (later : v ≡ 0 → ⊥) (eb : base ≡ logsPlace (v - 1)) (eg : g ≡ agreementOf b (v - 1))
-      (p : Points r base f) where
+  module _ (base : ℕ) (g : Agreement) (r : Grade) (later : v ≡ 0 → ⊥) (eb : base ≡ logsPlace (v - 1)) (eg : g ≡ agreementOf b (v - 1)) where
     is-later : v ≡ suc (v - 1)
     is-later = omega arith
 
-    -- what is found of the view before, whichever the grade
-    found : (seen : ℕ → Option Log) (grade : ℕ → Agreement → Option Log) → ((u : ℕ) → seen (suc u) ≡ grade (logsPlace u) (agreementOf b u))
-        → Gives (grade base g) names counts base r → Finds (seen v) names counts f
-    found seen grade same w = record {
-      log = p .log names counts ∙ w .log ∙ (λ i. grade (eb i) (eg i)) ∙ sym (same (v - 1)) ∙ sym (ap seen is-later);
-      before = p .before;
+    -- what is given of the view before, whichever the grade
+    given : (seen : ℕ → Option Log) (grade : ℕ → Agreement → Option Log) → ((u : ℕ) → seen (suc u) ≡ grade (logsPlace u) (agreementOf b u))
+        → Gives (grade base g) names counts base r → Gives (seen v) names counts (logsPlace (v - 1)) r
+    given seen grade same w = record {
+      log =
+          ap (λ (x : ℕ). logOf names counts x r) (sym eb)
+          ∙ w .log
+          ∙ (λ i. grade (eb i) (eg i))
+          ∙ sym (same (v - 1))
+          ∙ sym (ap seen is-later);
+      placed = w .placed;
     }
 
-    pub candidate-later : Gives (gradeZero names counts base g) names counts base r → Finds (candidateOf s v) names counts f
+    pub candidate-later : Gives (gradeZero names counts base g) names counts base r → Gives (candidateOf s v) names counts (logsPlace (v - 1)) r
     unfolding candidateOf
-    candidate-later = found (candidateOf s) (gradeZero names counts) (λ u. refl)
+    candidate-later = given (candidateOf s) (gradeZero names counts) (λ u. refl)
 
-    pub lock-later : Gives (gradeOne names counts base g) names counts base r → Finds (lockOf s v) names counts f
+    pub lock-later : Gives (gradeOne names counts base g) names counts base r → Gives (lockOf s v) names counts (logsPlace (v - 1)) r
     unfolding lockOf
-    lock-later = found (lockOf s) (gradeOne names counts) (λ u. refl)
+    lock-later = given (lockOf s) (gradeOne names counts) (λ u. refl)
 
-    pub decision-later : Gives (gradeTwo names counts base g) names counts base r → Finds (decisionOf s v) names counts f
+    pub decision-later : Gives (gradeTwo names counts base g) names counts base r → Gives (decisionOf s v) names counts (logsPlace (v - 1)) r
     unfolding decisionOf
-    decision-later = found (decisionOf s) (gradeTwo names counts) (λ u. refl)
+    decision-later = given (decisionOf s) (gradeTwo names counts) (λ u. refl)
 
   -- ---- the vote
 
-  module _ (f : Found) (lock : Finds (lockOf s v) names counts f) where
-    -- the ballot, of the lock that was found
-    of-found : ballot (seenOf s v .choose) (foundLog names counts f) ≡ ballotOf s v
-    of-found = ap (ballot (seenOf s v .choose)) (lock .log)
+  module _ (r : Grade) (given : Gives (lockOf s v) names counts (logsPlace (v - 1)) r) where
+    pub ballot-none : r ≡ Nothing → Finds (ballotOf s v) names counts Nowhere
+    ballot-none e = record { log = ap (ballot (seenOf s v .choose)) (seen-none (lockOf s v) names counts v r given e .log); before = tt }
 
-    pub ballot-none : f ≡ Nowhere → Finds (ballotOf s v) names counts Nowhere
-    ballot-none e = record { log = rw e at of-found; before = tt }
-
-    module _ (limits : beyond b ≡ false) (lists : shortLists (lentAs names counts) ≡ false) (a k : ℕ) (e : f ≡ At a k) (g : Proposals) (eg : g ≡ proposalsOf b v)
+    module _ (limits : beyond b ≡ false) (lists : shortLists (lentAs names counts) ≡ false) (i k a : ℕ) (e : r ≡ Longest i k)
+        (p : a ≡ placeOf (logsPlace (v - 1)) i) (g : Proposals) (eg : g ≡ proposalsOf b v)
         (choice : Choice) (w : Chooses (choiceOf names counts proposalsPlace g a k) choice) where
+      lock : Finds (lockOf s v) names counts (At a k)
+      lock = seen-at (lockOf s v) names counts v r given i k a e p
+
       abbrev kept : ℕ → Kept Proposed
       kept = keptProposal names counts proposalsPlace (proposalsOf b v)
 
       abbrev L : Log
       L = logAt names counts a k
 
-      roomy : (leastLent ≤ length names) × (leastLent ≤ length counts)
-      roomy =
-          let r = or-false (ltb (length names) leastLent) (ltb (length counts) leastLent) lists in
-          (ltb-false (length names) leastLent (r .0), ltb-false (length counts) leastLent (r .1))
-
       room : lacksRoom names counts proposalsPlace ≡ false
       room =
-          let (n, m) = roomy in
+          let (n, m) = lists-roomy (lentAs names counts) lists in
           rw (le-ltb (length names) (proposalsPlace + span) (omega arith), le-ltb (length counts) (proposalsPlace + span) (omega arith))
 
-      lock-before : Before a k
-      lock-before = subst FoundBefore e (lock .before)
-
       lock-within : within names counts a k ≡ true
-      lock-within =
-          let (n, m) = roomy in
-          let (ends, few) = lock-before in
-          let z : Within names counts a k = record { few = few; inNames = omega arith; inCounts = omega arith } in
-          of-within z
+      lock-within = before-within (lentAs names counts) lists a k (lock .before)
 
       short : (i : ℕ) → i < mostSenders → getD (proposalsOf b v .lengths) i 0 ≤ mostBlocks
-      short = proposed-short b (within-proposals b limits) v
+      short = proposed-short b (within-limits b limits .1) v
 
       choice-is : choiceOf names counts proposalsPlace (proposalsOf b v) a k ≡ chosen choice
       choice-is = sym (w .sender ∙ ap (λ (h : Proposals). choiceOf names counts proposalsPlace h a k) eg)
@@ -172,23 +171,22 @@ module _ (b : Bench) (names counts : List ℕ) (v : ℕ) where
       voted =
           ap (λ (o : Option ℕ). some (orLock kept L o)) (sym choice-is)
           ∙ ap some (choice-voted names counts proposalsPlace (proposalsOf b v) a k room short lock-within)
-          ∙ ap (λ (x : Found). ballot (seenOf s v .choose) (foundLog names counts x)) (sym e)
-          ∙ of-found
+          ∙ ap (ballot (seenOf s v .choose)) (lock .log)
 
       pub ballot-lock : choice ≡ Lock → Finds (ballotOf s v) names counts (At a k)
-      ballot-lock c = record { log = ap (λ (x : Choice). some (votedFor x)) (sym c) ∙ voted; before = lock-before }
+      ballot-lock c = record { log = ap (λ (x : Choice). some (votedFor x)) (sym c) ∙ voted; before = lock .before }
 
-      pub ballot-proposal : (i : ℕ) → choice ≡ Proposal i
-          → Finds (ballotOf s v) names counts (At (proposalsPlace + mostBlocks * i) (getD (g .lengths) i 0))
-      ballot-proposal i c =
-          let few = best-place choice i (w .place) c in
-          let blocks = short i few in
-          let own = ap (λ (h : Proposals). getD (h .lengths) i 0) eg in
-          let fit = choice-fits names counts proposalsPlace (proposalsOf b v) a k i (choice-is ∙ ap chosen c) in
+      pub ballot-proposal : (j : ℕ) → choice ≡ Proposal j
+          → Finds (ballotOf s v) names counts (At (proposalsPlace + mostBlocks * j) (getD (g .lengths) j 0))
+      ballot-proposal j c =
+          let few = best-place choice j (w .place) c in
+          let blocks = short j few in
+          let own = ap (λ (h : Proposals). getD (h .lengths) j 0) eg in
+          let fit = choice-fits names counts proposalsPlace (proposalsOf b v) a k j (choice-is ∙ ap chosen c) in
           record {
             log =
-                ap (λ (n : ℕ). some (logAt names counts (placeOf proposalsPlace i) n)) own
-                ∙ ap some (sym (fits-log names counts proposalsPlace (proposalsOf b v) a k i fit))
+                ap (λ (n : ℕ). some (logAt names counts (placeOf proposalsPlace j) n)) own
+                ∙ ap some (sym (fits-log names counts proposalsPlace (proposalsOf b v) a k j fit))
                 ∙ ap (λ (x : Choice). some (votedFor x)) (sym c)
                 ∙ voted;
             before = (omega arith, omega arith);

@@ -10,9 +10,6 @@ use Rattle.message.specs.Limits.{mostBlocks, lastView}
 use Rattle.message.specs.Logs.{Block, Log}
 use Rattle.message.specs.Message.{Meaning}
 use Rattle.message.specs.Store.{logAt}
-use Rattle.agreement.specs.Limits.{span}
-use Rattle.agreement.specs.Grades.{logOf, Placed}
-use Rattle.agreement.specs.declared.Grade.{Grade}
 use Rattle.bench.specs.Layout.{decidedPlace, mostBytes, shortLists}
 use Rattle.bench.specs.Calls.{acted, State, Step}
 use Rattle.bench.specs.Acts.{outAfter}
@@ -63,15 +60,6 @@ FoundBefore (At a k) = Before a k
 
 pub record Finds (o : Option Log) (names counts : List ℕ) (r : Found) : Type 0 where
   pub log : foundLog names counts r ≡ o
-  pub before : FoundBefore r
-
--- the grade's answer about the logs from `base` on
-pub record Pointing (grade : Grade) (base : ℕ) : Type 0 where
-  pub placed : Placed grade
-  pub before : base + span ≤ decidedPlace
-
-pub record Points (grade : Grade) (base : ℕ) (r : Found) : Type 0 where
-  pub log : (names counts : List ℕ) → foundLog names counts r ≡ logOf names counts base grade
   pub before : FoundBefore r
 
 -- the log voted for: none without a lock

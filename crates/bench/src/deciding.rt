@@ -15,8 +15,9 @@ use super::DECIDED_PLACE;
 use super::LAST_VIEW;
 use super::record::agreement_of;
 use super::record::with_agreement;
-use super::seeing::Found;
 use super::seeing::decision;
+use super::seeing::place_before;
+use agreement::Grade;
 use message::store::copy;
 use message::store::is_prefix;
 
@@ -45,9 +46,10 @@ fn decide(b: Bench, names: &mut [u64], counts: &mut [u16], v: u32) -> Bench
     requires { ⌜ (b .decided ≤ mostBlocks) × (shortLists (lentAs (now names) (now counts)) ≡ false) ⌝ }
     ensures { λ r. ⌜ Leaves (settled (stateOf b (now (names .entry)) (now (counts .entry))) (decisionOf (stateOf b (now (names .entry)) (now (counts .entry))) v)) r (now (names .exit)) (now (counts .exit)) ⌝ }
 {
-    let Found::At(at, blocks) = decision(b, names, counts, v) else {
+    let Grade::Longest(i, blocks) = decision(b, names, counts, v) else {
         return b;
     };
+    let at = place_before(v, i);
     settle(b, names, counts, at, blocks)
 }
 

@@ -16,6 +16,8 @@ use super::filing::file_proposal;
 use super::seeing::Found;
 use super::seeing::ballot;
 use super::seeing::candidate;
+use super::seeing::place_before;
+use agreement::Grade;
 use message::writer::write_log;
 use message::writer::write_proposal;
 
@@ -102,12 +104,13 @@ pub(crate) fn propose(
     if (LAST_VIEW < v) | (name == 0) {
         return nothing;
     }
-    let Found::At(at, blocks) = candidate(b, names, counts, v) else {
+    let Grade::Longest(i, blocks) = candidate(b, names, counts, v) else {
         return nothing;
     };
     if MOST_BLOCKS <= blocks as usize {
         return nothing;
     }
+    let at = place_before(v, i);
     make_proposal(b, names, counts, out, v, at, blocks, name, count, priority)
 }
 

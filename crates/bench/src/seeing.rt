@@ -1,11 +1,14 @@
-// What an act sees of the agreement before, and the log it votes for: each a log in the lent lists, by its place and its blocks.
+// What an act sees of the agreement before, by the grade's answer, and the log it votes for.
 ghost use mathlib.Core.Path.{_≡_};
 ghost use mathlib.Core.Bool.{false};
+ghost use Prim.Native.Nat.{_-_};
+ghost use Rattle.agreement.specs.Limits.{placeOf};
+ghost use Rattle.agreement.specs.Grades.{Gives};
+ghost use Rattle.bench.specs.Layout.{logsPlace, shortLists};
+ghost use Rattle.bench.specs.Record.{beyond};
 ghost use Rattle.bench.specs.ByRecord.{candidateOf, lockOf, decisionOf};
 ghost use Rattle.bench.specs.Answers.{lentAs, stateOf};
-ghost use Rattle.bench.specs.Steps.{Finds, Pointing, Points, ballotOf};
-ghost use Rattle.bench.specs.Layout.{shortLists};
-ghost use Rattle.bench.specs.Record.{beyond};
+ghost use Rattle.bench.specs.Steps.{Finds, ballotOf};
 use super::Bench;
 use super::MOST_BLOCKS;
 use super::PROPOSALS_PLACE;
@@ -15,57 +18,57 @@ use super::record::proposals_of;
 use agreement::Choice;
 use agreement::Grade;
 
-// A log that stands in the lists from place `at` on.
+// The log voted for, which stands in the lists from this place on.
 pub(crate) enum Found {
     At(usize, u8),
     Nowhere,
 }
 
-// The grade's answer about the logs from `base` on.
-fn place_of(grade: Grade, base: u32) -> Found
-    requires { ⌜ Pointing grade base ⌝ }
-    ensures { λ r. ⌜ Points grade base r ⌝ }
+// The place of sender i's log in the agreement of the view before v. For v = 0 there is none, and of the empty log nothing is read.
+pub(crate) fn place_before(v: u32, i: u8) -> usize
+    ensures { λ r. ⌜ r ≡ placeOf (logsPlace (v - 1)) i ⌝ }
 {
-    let Grade::Longest(i, blocks) = grade else {
-        return Found::Nowhere;
-    };
-    Found::At(base as usize + MOST_BLOCKS * (i as usize), blocks)
+    if v == 0 {
+        return MOST_BLOCKS * (i as usize);
+    }
+    let base = logs_place(v - 1);
+    base as usize + MOST_BLOCKS * (i as usize)
 }
 
 // The longest log with grade 0 of the view before v; the empty log for v = 0.
-pub(crate) fn candidate(b: Bench, names: &[u64], counts: &[u16], v: u32) -> Found
-    ensures { λ r. ⌜ Finds (candidateOf (stateOf b (now (names .entry)) (now (counts .entry))) v) (now (names .entry)) (now (counts .entry)) r ⌝ }
+pub(crate) fn candidate(b: Bench, names: &[u64], counts: &[u16], v: u32) -> Grade
+    ensures { λ r. ⌜ Gives (candidateOf (stateOf b (now (names .entry)) (now (counts .entry))) v) (now (names .entry)) (now (counts .entry)) (logsPlace (v - 1)) r ⌝ }
 {
     if v == 0 {
-        return Found::At(0, 0);
+        return Grade::Longest(0, 0);
     }
     let base = logs_place(v - 1);
     let g = agreement_of(b, v - 1);
-    place_of(agreement::grading::zero(g, names, counts, base), base)
+    agreement::grading::zero(g, names, counts, base)
 }
 
 // The longest with grade 1; the empty log for v = 0.
-pub(crate) fn lock(b: Bench, names: &[u64], counts: &[u16], v: u32) -> Found
-    ensures { λ r. ⌜ Finds (lockOf (stateOf b (now (names .entry)) (now (counts .entry))) v) (now (names .entry)) (now (counts .entry)) r ⌝ }
+fn lock(b: Bench, names: &[u64], counts: &[u16], v: u32) -> Grade
+    ensures { λ r. ⌜ Gives (lockOf (stateOf b (now (names .entry)) (now (counts .entry))) v) (now (names .entry)) (now (counts .entry)) (logsPlace (v - 1)) r ⌝ }
 {
     if v == 0 {
-        return Found::At(0, 0);
+        return Grade::Longest(0, 0);
     }
     let base = logs_place(v - 1);
     let g = agreement_of(b, v - 1);
-    place_of(agreement::grading::one(g, names, counts, base), base)
+    agreement::grading::one(g, names, counts, base)
 }
 
 // The longest with grade 2; none for v = 0.
-pub(crate) fn decision(b: Bench, names: &[u64], counts: &[u16], v: u32) -> Found
-    ensures { λ r. ⌜ Finds (decisionOf (stateOf b (now (names .entry)) (now (counts .entry))) v) (now (names .entry)) (now (counts .entry)) r ⌝ }
+pub(crate) fn decision(b: Bench, names: &[u64], counts: &[u16], v: u32) -> Grade
+    ensures { λ r. ⌜ Gives (decisionOf (stateOf b (now (names .entry)) (now (counts .entry))) v) (now (names .entry)) (now (counts .entry)) (logsPlace (v - 1)) r ⌝ }
 {
     if v == 0 {
-        return Found::Nowhere;
+        return Grade::Nothing;
     }
     let base = logs_place(v - 1);
     let g = agreement_of(b, v - 1);
-    place_of(agreement::grading::two(g, names, counts, base), base)
+    agreement::grading::two(g, names, counts, base)
 }
 
 // The log voted for: the best proposal of view v that has the lock as a prefix, else the lock; none without a lock.
@@ -73,16 +76,18 @@ pub(crate) fn ballot(b: Bench, names: &[u64], counts: &[u16], v: u32) -> Found
     requires { ⌜ (beyond b ≡ false) × (shortLists (lentAs (now names) (now counts)) ≡ false) ⌝ }
     ensures { λ r. ⌜ Finds (ballotOf (stateOf b (now (names .entry)) (now (counts .entry))) v) (now (names .entry)) (now (counts .entry)) r ⌝ }
 {
-    let Found::At(at, blocks) = lock(b, names, counts, v) else {
+    let Grade::Longest(i, blocks) = lock(b, names, counts, v) else {
         return Found::Nowhere;
     };
+    let at = place_before(v, i);
+    let long = blocks as usize;
     let g = proposals_of(b, v);
-    let lock = blocks as usize;
-    let choice = agreement::proposing::choose(g, names, counts, PROPOSALS_PLACE, at, lock);
-    let Choice::Proposal(i) = choice else {
+    let choice = agreement::proposing::choose(g, names, counts, PROPOSALS_PLACE, at, long);
+    let Choice::Proposal(j) = choice else {
         return Found::At(at, blocks);
     };
     let lengths = g.lengths;
-    let best = i as usize;
-    Found::At(PROPOSALS_PLACE as usize + MOST_BLOCKS * best, lengths[best])
+    let best = j as usize;
+    let place = PROPOSALS_PLACE as usize + MOST_BLOCKS * best;
+    Found::At(place, lengths[best])
 }

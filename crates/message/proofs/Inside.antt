@@ -2,9 +2,9 @@
 -- Assumes nothing.
 use Prim.Native.Nat.{ℕ, _+_, _*_, _^_, _<_, _≤_}
 use native.Mathlib.Omega.{arith}
-use mathlib.Core.List.{List, _++_}
+use mathlib.Core.List.{List, [], _++_, append-nil}
 use mathlib.Core.Bool.{Bool, true}
-use mathlib.Core.Path.{_≡_, ap, _∙_}
+use mathlib.Core.Path.{_≡_, sym, ap, _∙_}
 use borrow.Author.Tests.{le-leb}
 use lib.ListN.{length, drop}
 use Rattle.message.specs.Limits.{mostBlocks, headLength, blockWidth}
@@ -58,13 +58,13 @@ pub written-inside : (ok : Bool) (out : List ℕ) (m : Meaning) (r : Bool) (o : 
 unfolding writeOf
 written-inside ok out m r o e t = let u : Writes (writeOf true out m) r o = rw e at t in (u .answered, u .buffer)
 
--- ---- a message at the front of a buffer holds its log: a made message is filed from the buffer it was written to
+-- ---- a message at the front of a buffer holds its log
 
 module _ (out : List ℕ) (m : Meaning) (room : length (bytesOf m) ≤ length out) where
   pub count-made : countIn (put out 0 (bytesOf m)) ≡ length (logOf m)
   count-made = ap countIn (put-front out (bytesOf m) room) ∙ count-message m (drop (length (bytesOf m)) out)
 
-  pub holds-made : length (logOf m) ≤ mostBlocks → holdsLog (put out 0 (bytesOf m)) ≡ true
+  holds-made : length (logOf m) ≤ mostBlocks → holdsLog (put out 0 (bytesOf m)) ≡ true
   holds-made h =
       let l = length-message m in
       let p = length-put out 0 (bytesOf m) in
@@ -74,8 +74,30 @@ module _ (out : List ℕ) (m : Meaning) (room : length (bytesOf m) ≤ length ou
         le-leb (headLength + blockWidth * countIn (put out 0 (bytesOf m))) (length (put out 0 (bytesOf m))) (omega arith),
       )
 
-  pub log-made : AllBelow (2 ^ 64) (namesOf (logOf m)) → AllBelow (2 ^ 16) (countsOf (logOf m)) → logIn (put out 0 (bytesOf m)) ≡ logOf m
+  log-made : AllBelow (2 ^ 64) (namesOf (logOf m)) → AllBelow (2 ^ 16) (countsOf (logOf m)) → logIn (put out 0 (bytesOf m)) ≡ logOf m
   log-made n c = ap logIn (put-front out (bytesOf m) room) ∙ log-message m (drop (length (bytesOf m)) out) n c
+
+-- ---- and says of it what its bytes alone say: a made message is filed from the buffer it was written to
+
+count-alone : (m : Meaning) → countIn (bytesOf m) ≡ length (logOf m)
+count-alone m = ap countIn (sym (append-nil (bytesOf m))) ∙ count-message m []
+
+module _ (out : List ℕ) (m : Meaning) (room : length (bytesOf m) ≤ length out) where
+  pub same-count : countIn (put out 0 (bytesOf m)) ≡ countIn (bytesOf m)
+  same-count = count-made out m room ∙ sym (count-alone m)
+
+  pub same-holds : length (logOf m) ≤ mostBlocks → holdsLog (put out 0 (bytesOf m)) ≡ holdsLog (bytesOf m)
+  same-holds h =
+      let c = count-alone m in
+      let l = length-message m in
+      holds-made out m room h
+      ∙ sym (rw (
+        le-leb (countIn (bytesOf m)) mostBlocks (omega arith),
+        le-leb (headLength + blockWidth * countIn (bytesOf m)) (length (bytesOf m)) (omega arith),
+      ))
+
+  pub same-log : AllBelow (2 ^ 64) (namesOf (logOf m)) → AllBelow (2 ^ 16) (countsOf (logOf m)) → logIn (put out 0 (bytesOf m)) ≡ logIn (bytesOf m)
+  same-log n c = log-made out m room n c ∙ sym (ap logIn (sym (append-nil (bytesOf m))) ∙ log-message m [] n c)
 
 -- ---- and its whole content is read back from there, and a PROPOSAL's priority
 

@@ -148,6 +148,10 @@ part-below B l a k h i =
     let b = h 0 in
     omega arith)
 
+pub one-below : (B x : ℕ) → x < B → AllBelow B (x ∷ [])
+one-below B x h zero = h
+one-below B x h (suc i) = omega arith
+
 pub append-below : (B : ℕ) (xs ys : List ℕ) → AllBelow B xs → AllBelow B ys → AllBelow B (xs ++ ys)
 append-below B [] ys h k i = k i
 append-below B (x ∷ xs) ys h k zero = h 0

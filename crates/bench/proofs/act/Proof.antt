@@ -1,4 +1,5 @@
-use Rattle.bench.proofs.ActCases.{act-by-9, act-by-8, act-by-11, act-by-22, act-asks, acts-by}
+use Rattle.bench.proofs.TestedLaws.{act-asks}
+use Rattle.bench.proofs.ActCases.{act-by-9, act-by-8, act-by-11, act-by-22, acts-by}
 use borrow.Author.Needs.{needs}
 use Rattle.bench.proofs.act.Statement.{statement}
 use Rattle.bench.proofs.act.Tie as tie

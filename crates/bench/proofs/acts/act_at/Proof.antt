@@ -1,4 +1,5 @@
-use Rattle.bench.proofs.ActCases.{tested-over, decided-short, lists-long, proposed, voted, decided, snapped-two}
+use Rattle.bench.proofs.TestedLaws.{tested-over, decided-short, lists-long}
+use Rattle.bench.proofs.ActCases.{proposed, voted, decided, snapped-two}
 use borrow.Author.Needs.{needs}
 use Rattle.bench.proofs.acts.act_at.Statement.{statement}
 use Rattle.bench.proofs.acts.act_at.Tie as tie

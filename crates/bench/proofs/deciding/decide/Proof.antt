@@ -1,13 +1,16 @@
-use Rattle.bench.proofs.DecidingLaws.{found-before, decide-none, decide-some}
+use Rattle.bench.proofs.DecidingLaws.{decision-before, decide-none, decide-some}
 use borrow.Author.Needs.{needs}
 use Rattle.bench.proofs.deciding.decide.Statement.{statement}
 use Rattle.bench.proofs.deciding.decide.Tie as tie
+use Rattle.bench.proofs.deciding.settle.Reads as settle-reads
+use Rattle.bench.proofs.seeing.decision.Reads as decision-reads
+use Rattle.bench.proofs.seeing.place_before.Reads as place-before-reads
 
 decision-requires : tie.Need-decision-requires
 decision-requires c κs = search needs
 
-enum-known-at : tie.Need-enum-known-at
-enum-known-at c = search needs
+enum-known-i : tie.Need-enum-known-i
+enum-known-i c = search needs
 
 enum-told : tie.Need-enum-told
 enum-told c = search needs
@@ -21,8 +24,11 @@ same-length-2 c = search needs
 returns : tie.Need-returns
 returns c = search decide-none
 
+place-before-requires : tie.Need-place-before-requires
+place-before-requires c κs = search needs
+
 settle-requires : tie.Need-settle-requires
-settle-requires c κs = (search needs, (search needs, search found-before))
+settle-requires c κs = (search needs, (search needs, search decision-before))
 
 same-length-3 : tie.Need-same-length-3
 same-length-3 c = search needs
@@ -38,11 +44,12 @@ decide-spec =
     tie.close
     (tie.spec
     decision-requires
-    enum-known-at
+    enum-known-i
     enum-told
     same-length
     same-length-2
     returns
+    place-before-requires
     settle-requires
     same-length-3
     same-length-4

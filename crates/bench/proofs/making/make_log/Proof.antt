@@ -1,4 +1,4 @@
-use Rattle.bench.proofs.MakingLaws.{log-acts}
+use Rattle.bench.proofs.WrittenLaws.{log-acts}
 use borrow.Author.Needs.{needs}
 use Rattle.bench.proofs.making.make_log.Statement.{statement}
 use Rattle.bench.proofs.making.make_log.Tie as tie

@@ -1,4 +1,4 @@
-use Rattle.bench.proofs.MakingLaws.{proposal-acts}
+use Rattle.bench.proofs.WrittenLaws.{proposal-acts}
 use borrow.Author.Needs.{needs}
 use Rattle.bench.proofs.making.make_proposal.Statement.{statement}
 use Rattle.bench.proofs.making.make_proposal.Tie as tie

@@ -1,7 +1,10 @@
-use Rattle.bench.proofs.MakingLaws.{propose-late, propose-nowhere, propose-full, propose-making, propose-acts}
+use Rattle.bench.proofs.MakingLaws.{propose-late, propose-making, propose-nobody, propose-full, propose-acts}
 use borrow.Author.Needs.{needs}
 use Rattle.bench.proofs.making.propose.Statement.{statement}
 use Rattle.bench.proofs.making.propose.Tie as tie
+use Rattle.bench.proofs.making.make_proposal.Reads as make-proposal-reads
+use Rattle.bench.proofs.seeing.candidate.Reads as candidate-reads
+use Rattle.bench.proofs.seeing.place_before.Reads as place-before-reads
 
 returns : tie.Need-returns
 returns c = search propose-late
@@ -9,8 +12,8 @@ returns c = search propose-late
 candidate-requires : tie.Need-candidate-requires
 candidate-requires c κs = search needs
 
-enum-known-at : tie.Need-enum-known-at
-enum-known-at c = search needs
+enum-known-i : tie.Need-enum-known-i
+enum-known-i c = search needs
 
 enum-told : tie.Need-enum-told
 enum-told c = search needs
@@ -22,7 +25,7 @@ same-length-2 : tie.Need-same-length-2
 same-length-2 c = search needs
 
 returns-2 : tie.Need-returns-2
-returns-2 c = search propose-nowhere
+returns-2 c = search propose-nobody
 
 cast-if2 : tie.Need-cast-if2
 cast-if2 c = search needs
@@ -36,8 +39,14 @@ same-length-4 c = search needs
 returns-3 : tie.Need-returns-3
 returns-3 c = search propose-full
 
+place-before-requires : tie.Need-place-before-requires
+place-before-requires c κs = search needs
+
 make-proposal-requires : tie.Need-make-proposal-requires
-make-proposal-requires c κs = propose-making _ _ _ _ _ (c .before .before .before .before .before .before .before .before .before .before .before .before .before .before .args .name) (c .before .before .before .before .before .before .before .before .before .before .if1 .left) _ (c .before .before .before .before .before .before .before .candidate .ensures) _ _ (c .before .before .before .before .before .at .given .1) (c .before .before .before .if2 .left) (c .before .before .before .before .before .before .before .before .before .before .before .before .before .before .pre)
+make-proposal-requires c κs =
+    let found = c .before .before .before .before .before .before .before .before in
+    let start = found .before .before .before .before .before .before .before in
+    (propose-making _ _ _ _ _ (start .args .name) (found .before .before .before .if1 .left) _ (found .candidate .ensures) _ _ _ (c .before .before .before .before .before .before .i .given .1) (c .before .before .before .place-before .ensures) (start .pre), search needs)
 
 same-length-5 : tie.Need-same-length-5
 same-length-5 c = search needs
@@ -57,7 +66,7 @@ propose-spec =
     (tie.spec
     returns
     candidate-requires
-    enum-known-at
+    enum-known-i
     enum-told
     same-length
     same-length-2
@@ -66,6 +75,7 @@ propose-spec =
     same-length-3
     same-length-4
     returns-3
+    place-before-requires
     make-proposal-requires
     same-length-5
     same-length-6

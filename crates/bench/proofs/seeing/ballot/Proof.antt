@@ -6,12 +6,13 @@ use Rattle.bench.proofs.seeing.ballot.Tie as tie
 use Rattle.agreement.proofs.proposing.choose.Reads as choose-reads
 use Rattle.bench.proofs.record.proposals_of.Reads as proposals-of-reads
 use Rattle.bench.proofs.seeing.lock.Reads as lock-reads
+use Rattle.bench.proofs.seeing.place_before.Reads as place-before-reads
 
 lock-requires : tie.Need-lock-requires
 lock-requires c κs = search needs
 
-enum-known-at : tie.Need-enum-known-at
-enum-known-at c = search needs
+enum-known-i : tie.Need-enum-known-i
+enum-known-i c = search needs
 
 enum-told : tie.Need-enum-told
 enum-told c = search needs
@@ -19,11 +20,14 @@ enum-told c = search needs
 returns : tie.Need-returns
 returns c = search ballot-none
 
+place-before-requires : tie.Need-place-before-requires
+place-before-requires c κs = search needs
+
+cast-long : tie.Need-cast-long
+cast-long c = search needs
+
 proposals-of-requires : tie.Need-proposals-of-requires
 proposals-of-requires c κs = search needs
-
-cast-lock : tie.Need-cast-lock
-cast-lock c = search needs
 
 choose-requires : tie.Need-choose-requires
 choose-requires c κs = search needs
@@ -40,17 +44,17 @@ returns-2 c = search ballot-lock
 cast-best : tie.Need-cast-best
 cast-best c = search needs
 
-cast-t14 : tie.Need-cast-t14
-cast-t14 c = search needs
+cast-place : tie.Need-cast-place
+cast-place c = search needs
 
-mul-t15 : tie.Need-mul-t15
-mul-t15 c = search needs
+mul-place : tie.Need-mul-place
+mul-place c = search needs
 
-add-t16 : tie.Need-add-t16
-add-t16 c = search needs
+add-place : tie.Need-add-place
+add-place c = search needs
 
-array-read-t19 : tie.Need-array-read-t19
-array-read-t19 c = search best-place
+array-read-t20 : tie.Need-array-read-t20
+array-read-t20 c = search best-place
 
 returns-3 : tie.Need-returns-3
 returns-3 c = search ballot-proposal
@@ -60,18 +64,19 @@ ballot-spec =
     tie.close
     (tie.spec
     lock-requires
-    enum-known-at
+    enum-known-i
     enum-told
     returns
+    place-before-requires
+    cast-long
     proposals-of-requires
-    cast-lock
     choose-requires
     enum-known-choice
     enum-told-2
     returns-2
     cast-best
-    cast-t14
-    mul-t15
-    add-t16
-    array-read-t19
+    cast-place
+    mul-place
+    add-place
+    array-read-t20
     returns-3)

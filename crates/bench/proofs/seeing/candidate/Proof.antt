@@ -1,7 +1,10 @@
-use Rattle.bench.proofs.SeeingLaws.{points-low, candidate-first, candidate-later}
+use Rattle.bench.proofs.SeeingLaws.{candidate-first, candidate-later}
 use borrow.Author.Needs.{needs}
 use Rattle.bench.proofs.seeing.candidate.Statement.{statement}
 use Rattle.bench.proofs.seeing.candidate.Tie as tie
+use Rattle.agreement.proofs.grading.zero.Reads as zero-reads
+use Rattle.bench.proofs.record.agreement_of.Reads as agreement-of-reads
+use Rattle.bench.proofs.record.logs_place.Reads as logs-place-reads
 
 returns : tie.Need-returns
 returns c = search candidate-first
@@ -21,9 +24,6 @@ agreement-of-requires c κs = search needs
 zero-requires : tie.Need-zero-requires
 zero-requires c κs = search needs
 
-place-of-requires : tie.Need-place-of-requires
-place-of-requires c κs = search points-low
-
 returns-2 : tie.Need-returns-2
 returns-2 c = search candidate-later
 
@@ -37,5 +37,4 @@ candidate-spec =
     sub-agreement-of
     agreement-of-requires
     zero-requires
-    place-of-requires
     returns-2)

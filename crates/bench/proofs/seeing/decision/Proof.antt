@@ -1,7 +1,10 @@
-use Rattle.bench.proofs.SeeingLaws.{points-low, decision-first, decision-later}
+use Rattle.bench.proofs.SeeingLaws.{decision-first, decision-later}
 use borrow.Author.Needs.{needs}
 use Rattle.bench.proofs.seeing.decision.Statement.{statement}
 use Rattle.bench.proofs.seeing.decision.Tie as tie
+use Rattle.agreement.proofs.grading.two.Reads as two-reads
+use Rattle.bench.proofs.record.agreement_of.Reads as agreement-of-reads
+use Rattle.bench.proofs.record.logs_place.Reads as logs-place-reads
 
 returns : tie.Need-returns
 returns c = search decision-first
@@ -21,9 +24,6 @@ agreement-of-requires c κs = search needs
 two-requires : tie.Need-two-requires
 two-requires c κs = search needs
 
-place-of-requires : tie.Need-place-of-requires
-place-of-requires c κs = search points-low
-
 returns-2 : tie.Need-returns-2
 returns-2 c = search decision-later
 
@@ -37,5 +37,4 @@ decision-spec =
     sub-agreement-of
     agreement-of-requires
     two-requires
-    place-of-requires
     returns-2)

@@ -1,7 +1,10 @@
-use Rattle.bench.proofs.SeeingLaws.{points-low, lock-first, lock-later}
+use Rattle.bench.proofs.SeeingLaws.{lock-first, lock-later}
 use borrow.Author.Needs.{needs}
 use Rattle.bench.proofs.seeing.lock.Statement.{statement}
 use Rattle.bench.proofs.seeing.lock.Tie as tie
+use Rattle.agreement.proofs.grading.one.Reads as one-reads
+use Rattle.bench.proofs.record.agreement_of.Reads as agreement-of-reads
+use Rattle.bench.proofs.record.logs_place.Reads as logs-place-reads
 
 returns : tie.Need-returns
 returns c = search lock-first
@@ -21,9 +24,6 @@ agreement-of-requires c κs = search needs
 one-requires : tie.Need-one-requires
 one-requires c κs = search needs
 
-place-of-requires : tie.Need-place-of-requires
-place-of-requires c κs = search points-low
-
 returns-2 : tie.Need-returns-2
 returns-2 c = search lock-later
 
@@ -37,5 +37,4 @@ lock-spec =
     sub-agreement-of
     agreement-of-requires
     one-requires
-    place-of-requires
     returns-2)

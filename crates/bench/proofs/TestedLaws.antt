@@ -1,0 +1,74 @@
+-- What the tests of a call leave where none of them refuses, as facts: of the record, of the two lists and of the outgoing buffer. Assumes nothing.
+use Prim.Native.Nat.{ℕ, _+_, _≤_}
+use native.Mathlib.Omega.{arith}
+use mathlib.Core.Bool.{Bool, true, false}
+use mathlib.Core.List.{List}
+use mathlib.Core.Path.{_≡_, sym, _∙_}
+use borrow.Author.Tests.{ltb-false, le-ltb}
+use lib.Dec.{ltb}
+use lib.ListN.{length}
+use Rattle.message.specs.Limits.{mostBlocks}
+use Rattle.message.specs.Store.{within}
+use Rattle.message.proofs.TestLaws.{or-false}
+use Rattle.message.proofs.ListedLaws.{Within, of-within}
+use Rattle.bench.specs.Layout.{decidedPlace, leastLent, mostBytes, Lent, shortLists, outOfRange}
+use Rattle.bench.specs.Calendar.{lastBeat}
+use Rattle.bench.specs.Calls.{State}
+use Rattle.bench.specs.Record.{withGatheringOver, beyondAgreement, beyondProposals, beyond}
+use Rattle.bench.specs.Answers.{lentAs, stateOf}
+use Rattle.bench.specs.Steps.{Tested, Before}
+use Rattle.bench.specs.declared.Bench.{Bench}
+
+-- ---- the record
+
+-- of its limits, the two that an act counts on
+pub within-limits : (b : Bench) → beyond b ≡ false → (b .decided ≤ mostBlocks) × (beyondProposals (b .n) (b .proposals) ≡ false)
+unfolding beyond
+within-limits b e =
+    let c = or-false (outOfRange (b .n) (b .own)) _ e .1 in
+    let d = or-false (ltb (lastBeat + 1) (b .next)) _ c .1 in
+    let f = or-false (ltb mostBlocks (b .decided)) _ d in
+    let g = or-false (beyondAgreement (b .n) (b .even)) _ (f .1) .1 in
+    (ltb-false mostBlocks (b .decided) (f .0), or-false (beyondAgreement (b .n) (b .odd)) _ g .1)
+
+-- ---- the lists
+
+module _ (l : Lent) (e : shortLists l ≡ false) where
+  pub lists-roomy : (leastLent ≤ length (l .names)) × (leastLent ≤ length (l .counts))
+  lists-roomy =
+      let r = or-false (ltb (length (l .names)) leastLent) (ltb (length (l .counts)) leastLent) e in
+      (ltb-false (length (l .names)) leastLent (r .0), ltb-false (length (l .counts)) leastLent (r .1))
+
+  lies-within : (a k : ℕ) → k ≤ mostBlocks → a + k ≤ leastLent → within (l .names) (l .counts) a k ≡ true
+  lies-within a k h g =
+      let (n, c) = lists-roomy in
+      let w : Within (l .names) (l .counts) a k = record { few = h; inNames = omega arith; inCounts = omega arith } in
+      of-within w
+
+  -- a log before the decided log's place, and one at it
+  pub before-within : (a k : ℕ) → Before a k → within (l .names) (l .counts) a k ≡ true
+  before-within a k (ends, few) = lies-within a k few (omega arith)
+
+  pub decided-within : (k : ℕ) → k ≤ mostBlocks → within (l .names) (l .counts) decidedPlace k ≡ true
+  decided-within k h = lies-within decidedPlace k h (omega arith)
+
+-- ---- all that an Act has tested
+
+pub act-asks : (b : Bench) (names counts out : List ℕ) (r q : Bool) → r ≡ beyond b → r ≡ false → q ≡ shortLists (lentAs names counts) → q ≡ false
+    → mostBytes ≤ length out → Tested (stateOf b names counts) out
+act-asks b names counts out r q e t f u l = record { limits = sym e ∙ t; lists = sym f ∙ u; room = le-ltb (length out) mostBytes l }
+
+pub long-out : {s : State} {out : List ℕ} → Tested s out → mostBytes ≤ length out
+long-out {s} {out} t = ltb-false (length out) mostBytes (t .room)
+
+module _ (b : Bench) (names counts out : List ℕ) where
+  -- ending the gathering does not matter to it
+  pub tested-over : Tested (stateOf b names counts) out → Tested (stateOf (withGatheringOver b) names counts) out
+  unfolding beyond
+  tested-over t = record { limits = t .limits; lists = t .lists; room = t .room }
+
+  pub decided-short : Tested (stateOf b names counts) out → b .decided ≤ mostBlocks
+  decided-short t = within-limits b (t .limits) .0
+
+  pub lists-long : Tested (stateOf b names counts) out → shortLists (lentAs names counts) ≡ false
+  lists-long t = t .lists
