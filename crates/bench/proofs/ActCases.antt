@@ -2,7 +2,7 @@
 use Prim.Native.Nat.{ℕ, zero, suc, _<_, _≤_}
 use mathlib.Core.List.{List}
 use mathlib.Core.Bool.{Bool, true, false}
-use mathlib.Core.Path.{_≡_, refl, ap, sym, subst}
+use mathlib.Core.Path.{_≡_, refl, ap, sym, subst, _∙_}
 use lib.ListN.{length}
 use borrow.Author.Tests.{lt-ltb, le-ltb}
 use Rattle.message.specs.Logs.{Block}
@@ -11,12 +11,14 @@ use Rattle.bench.specs.Calendar.{viewOf, placeIn, Act, proposing, voting
 use Rattle.bench.specs.Calls.{State}
 use Rattle.bench.specs.Acts.{makes}
 use Rattle.bench.specs.Record.{beatOf, idle, withGatheringOver, beyond}
-use Rattle.bench.specs.ByRecord.{settled, snappedTwo, changed, actedOf, over, actOf}
+use Rattle.bench.specs.ByRecord.{refuse, settled, snappedTwo, changed, actedOf, over, actOf}
 use Rattle.bench.specs.Answers.{lentAs, stateOf, madeReply, Acts}
-use Rattle.bench.specs.Steps.{noBlock, Leaves, Snaps}
+use Rattle.bench.specs.Steps.{Usable, noBlock, Leaves, Snaps}
 use Rattle.bench.specs.declared.Bench.{Bench}
 use Rattle.bench.specs.declared.Acted.{Acted}
 use Rattle.bench.specs.declared.Made.the-variants as makings
+use Rattle.bench.proofs.Refusals.{act-9, act-8, act-11, act-22, act-done}
+use Rattle.bench.proofs.TestedLaws.{is-usable}
 
 -- ---- the row: of a place in a view that is none of the first three
 
@@ -81,34 +83,35 @@ module _ (b : Bench) (names counts out : List ℕ) where
 
 -- ---- Act's refusals
 
-module _ (b : Bench) (names counts out : List ℕ) (block : Block) (priority : ℕ) (r : Bool) (e : r ≡ beyond b) where
+module _ (b : Bench) (names counts out : List ℕ) (block : Block) (priority : ℕ) where
+  abbrev Refused : ℕ → Type 0
+  Refused k = Acts (actOf (stateOf b names counts) block priority out) (record { answer = makings.Refused k; bench = b }) names counts out
+
   -- refused by k: all is as it was
-  abbrev RefusedBy : ℕ → Type 0
-  RefusedBy k = Acts (actOf (stateOf b names counts) block priority out) (record { answer = makings.Refused k; bench = b }) names counts out
+  act-by : (k : ℕ) → actOf (stateOf b names counts) block priority out ≡ refuse (stateOf b names counts) out k → Refused k
+  unfolding madeReply
+  act-by k o = rw o (record { answered = refl; bench = refl; nameList = refl; countList = refl; buffer = refl })
 
-  pub act-by-9 : r ≡ true → RefusedBy 9
-  unfolding actOf madeReply
-  act-by-9 t = rw (← e, t) (record { answered = refl; bench = refl; nameList = refl; countList = refl; buffer = refl })
+  module _ (r : Bool) (e : r ≡ beyond b) where
+    pub act-by-9 : r ≡ true → Refused 9
+    act-by-9 t = act-by 9 (act-9 (stateOf b names counts) (sym e ∙ t) block priority out)
 
-  module _ (t : r ≡ false) (q : Bool) (f : q ≡ shortLists (lentAs names counts)) where
-    pub act-by-8 : q ≡ true → RefusedBy 8
-    unfolding actOf madeReply
-    act-by-8 u = rw (← e, t, ← f, u) (record { answered = refl; bench = refl; nameList = refl; countList = refl; buffer = refl })
+    module _ (t : r ≡ false) (q : Bool) (f : q ≡ shortLists (lentAs names counts)) where
+      pub act-by-8 : q ≡ true → Refused 8
+      act-by-8 u = act-by 8 (act-8 (stateOf b names counts) (sym e ∙ t) (sym f ∙ u) block priority out)
 
-    module _ (u : q ≡ false) where
-      pub act-by-11 : length out < mostBytes → RefusedBy 11
-      unfolding actOf madeReply
-      act-by-11 l = rw (← e, t, ← f, u, lt-ltb (length out) mostBytes l) (record { answered = refl; bench = refl; nameList = refl; countList = refl; buffer = refl })
+      module _ (u : q ≡ false) where
+        usable : Usable (stateOf b names counts)
+        usable = is-usable b names counts r q e t f u
 
-      module _ (l : mostBytes ≤ length out) (i : Bool) (g : i ≡ idle b) where
-        pub act-by-22 : i ≡ true → RefusedBy 22
-        unfolding actOf madeReply
-        act-by-22 v =
-            rw (← e, t, ← f, u, le-ltb (length out) mostBytes l, ← g, v)
-            (record { answered = refl; bench = refl; nameList = refl; countList = refl; buffer = refl })
+        pub act-by-11 : length out < mostBytes → Refused 11
+        act-by-11 l = act-by 11 (act-11 (stateOf b names counts) block priority out usable (lt-ltb (length out) mostBytes l))
 
-        pub acts-by : (x : Acted) (ns cs o : List ℕ) → i ≡ false
-            → Acts (actedOf (over (stateOf b names counts)) block priority out (viewOf (beatOf b)) (actAt (placeIn (beatOf b)))) x ns cs o
-            → Acts (actOf (stateOf b names counts) block priority out) x ns cs o
-        unfolding actOf
-        acts-by x ns cs o v h = rw (← e, t, ← f, u, le-ltb (length out) mostBytes l, ← g, v) h
+        module _ (l : mostBytes ≤ length out) (i : Bool) (g : i ≡ idle b) where
+          pub act-by-22 : i ≡ true → Refused 22
+          act-by-22 v = act-by 22 (act-22 (stateOf b names counts) block priority out usable (le-ltb (length out) mostBytes l) (sym g ∙ v))
+
+          pub acts-by : (x : Acted) (ns cs o : List ℕ) → i ≡ false
+              → Acts (actedOf (over (stateOf b names counts)) block priority out (viewOf (beatOf b)) (actAt (placeIn (beatOf b)))) x ns cs o
+              → Acts (actOf (stateOf b names counts) block priority out) x ns cs o
+          acts-by x ns cs o v h = rw (act-done (stateOf b names counts) block priority out usable (le-ltb (length out) mostBytes l) (sym g ∙ v)) h

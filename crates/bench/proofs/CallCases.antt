@@ -1,8 +1,8 @@
 -- The four calls, case by case, as the code finds them: what was tested, and so what is answered and left. Assumes nothing.
 use Prim.Native.Nat.{ℕ, _<_, _≤_}
-use mathlib.Core.List.{List}
+use mathlib.Core.List.{List, []}
 use mathlib.Core.Bool.{Bool, true, false}
-use mathlib.Core.Path.{_≡_, refl, ap, _∙_}
+use mathlib.Core.Path.{_≡_, refl, ap, sym, _∙_}
 use borrow.Author.Tests.{lt-ltb, le-ltb}
 use Rattle.message.specs.Message.{means, logMessage, proposalMessage, contentOf, readOf, readingOf}
 use Rattle.message.specs.declared.Head.{Head}
@@ -19,88 +19,113 @@ use Rattle.agreement.specs.declared.FiledProposal.{FiledProposal}
 use Rattle.agreement.specs.declared.Proposals.{Proposals}
 use Rattle.bench.specs.Layout.{shortLists, outOfRange, logsPlace, proposalsPlace}
 use Rattle.bench.specs.Calendar.{lastBeat, logWindow, proposalWindow}
-use Rattle.bench.specs.Calls.{took}
+use Rattle.bench.specs.Calls.{done, took, Opening, Step}
 use Rattle.bench.specs.Record.{freshBench, agreementOf, proposalsOf, beatOf, notAboveLast, idle, beyond, withAgreement, withProposals}
-use Rattle.bench.specs.ByRecord.{openOf, begunBench, beginOf, fileLog, fileProposal, fileMessage, taken, receives, receiveOf}
+use Rattle.bench.specs.ByRecord.{refuse, notOpened, openOf, begunBench, beginOf, fileLog, fileProposal, fileMessage, taken, receives, receiveOf}
+use Rattle.bench.specs.Steps.{Usable}
 use Rattle.bench.specs.Answers.{lentAs, stateOf, startReply, takenReply, Opens, Begins, Receives}
 use Rattle.bench.specs.declared.Bench.{Bench}
+use Rattle.bench.specs.declared.Start.{Start}
 use Rattle.bench.specs.declared.Start.the-variants as starts
 use Rattle.bench.specs.declared.Taken.{Taken}
 use Rattle.bench.specs.declared.Taken.the-variants as takings
 use Rattle.bench.specs.declared.Received.{Received}
+use Rattle.bench.proofs.Refusals.{open-7, open-8, open-done, begin-9, begin-8, begin-10, begin-20, begin-done, receive-9, receive-8, receive-22, receive-on}
+use Rattle.bench.proofs.TestedLaws.{is-usable}
 
 -- ---- Open
 
 module _ (n own : ℕ) (names counts : List ℕ) (b : Bench) (r : Bool) (e : r ≡ outOfRange n own) where
+  -- what is opened, or not
+  gives : (t : Opening) (a : Start) → openOf n own (lentAs names counts) ≡ t → startReply a ≡ t .reply → b ≡ t .bench
+      → Opens (openOf n own (lentAs names counts)) (record { answer = a; bench = b })
+  gives t a o q h = rw o (record { answered = q; bench = h })
+
   pub open-by-7 : r ≡ true → b ≡ freshBench 0 0 → Opens (openOf n own (lentAs names counts)) (record { answer = starts.Refused 7; bench = b })
-  unfolding openOf startReply
-  open-by-7 t h = rw (← e, t) (record { answered = refl; bench = h })
+  unfolding startReply
+  open-by-7 t h = gives (notOpened 7) (starts.Refused 7) (open-7 n own (lentAs names counts) (sym e ∙ t)) refl h
 
   module _ (t : r ≡ false) (q : Bool) (f : q ≡ shortLists (lentAs names counts)) where
     pub open-by-8 : q ≡ true → b ≡ freshBench 0 0 → Opens (openOf n own (lentAs names counts)) (record { answer = starts.Refused 8; bench = b })
-    unfolding openOf startReply
-    open-by-8 u h = rw (← e, t, ← f, u) (record { answered = refl; bench = h })
+    unfolding startReply
+    open-by-8 u h = gives (notOpened 8) (starts.Refused 8) (open-8 n own (lentAs names counts) (sym e ∙ t) (sym f ∙ u)) refl h
 
     pub opened : q ≡ false → b ≡ freshBench n own → Opens (openOf n own (lentAs names counts)) (record { answer = starts.Done; bench = b })
-    unfolding openOf startReply
-    opened u h = rw (← e, t, ← f, u) (record { answered = refl; bench = h })
+    unfolding startReply
+    opened u h = gives (record { reply = done; bench = freshBench n own }) starts.Done (open-done n own (lentAs names counts) (sym e ∙ t) (sym f ∙ u)) refl h
 
 -- ---- Begin
 
-module _ (b : Bench) (names counts : List ℕ) (beat : ℕ) (r : Bool) (e : r ≡ beyond b) where
-  pub begin-by-9 : r ≡ true → Begins (beginOf (stateOf b names counts) beat) (record { answer = starts.Refused 9; bench = b }) names counts
-  unfolding beginOf startReply
-  begin-by-9 t = rw (← e, t) (record { answered = refl; bench = refl; nameList = refl; countList = refl })
+module _ (b : Bench) (names counts : List ℕ) (beat : ℕ) where
+  abbrev Begun : Start → Bench → Type 0
+  Begun a c = Begins (beginOf (stateOf b names counts) beat) (record { answer = a; bench = c }) names counts
 
-  module _ (t : r ≡ false) (q : Bool) (f : q ≡ shortLists (lentAs names counts)) where
-    pub begin-by-8 : q ≡ true → Begins (beginOf (stateOf b names counts) beat) (record { answer = starts.Refused 8; bench = b }) names counts
-    unfolding beginOf startReply
-    begin-by-8 u = rw (← e, t, ← f, u) (record { answered = refl; bench = refl; nameList = refl; countList = refl })
+  -- refused by k: all is as it was
+  begin-by : (k : ℕ) → beginOf (stateOf b names counts) beat ≡ refuse (stateOf b names counts) [] k → Begun (starts.Refused k) b
+  unfolding startReply
+  begin-by k o = rw o (record { answered = refl; bench = refl; nameList = refl; countList = refl })
 
-    module _ (u : q ≡ false) where
-      pub begin-by-10 : lastBeat < beat → Begins (beginOf (stateOf b names counts) beat) (record { answer = starts.Refused 10; bench = b }) names counts
-      unfolding beginOf startReply
-      begin-by-10 l = rw (← e, t, ← f, u, lt-ltb lastBeat beat l) (record { answered = refl; bench = refl; nameList = refl; countList = refl })
+  module _ (r : Bool) (e : r ≡ beyond b) where
+    pub begin-by-9 : r ≡ true → Begun (starts.Refused 9) b
+    begin-by-9 t = begin-by 9 (begin-9 (stateOf b names counts) (sym e ∙ t) beat)
 
-      module _ (l : beat ≤ lastBeat) (i : Bool) (g : i ≡ notAboveLast b beat) where
-        pub begin-by-20 : i ≡ true → Begins (beginOf (stateOf b names counts) beat) (record { answer = starts.Refused 20; bench = b }) names counts
-        unfolding beginOf startReply
-        begin-by-20 v = rw (← e, t, ← f, u, le-ltb lastBeat beat l, ← g, v) (record { answered = refl; bench = refl; nameList = refl; countList = refl })
+    module _ (t : r ≡ false) (q : Bool) (f : q ≡ shortLists (lentAs names counts)) where
+      pub begin-by-8 : q ≡ true → Begun (starts.Refused 8) b
+      begin-by-8 u = begin-by 8 (begin-8 (stateOf b names counts) (sym e ∙ t) (sym f ∙ u) beat)
 
-        pub begins : (c : Bench) → i ≡ false → c ≡ begunBench b beat
-            → Begins (beginOf (stateOf b names counts) beat) (record { answer = starts.Done; bench = c }) names counts
-        unfolding beginOf startReply
-        begins c v h = rw (← e, t, ← f, u, le-ltb lastBeat beat l, ← g, v) (record { answered = refl; bench = h; nameList = refl; countList = refl })
+      module _ (u : q ≡ false) where
+        usable : Usable (stateOf b names counts)
+        usable = is-usable b names counts r q e t f u
+
+        pub begin-by-10 : lastBeat < beat → Begun (starts.Refused 10) b
+        begin-by-10 l = begin-by 10 (begin-10 (stateOf b names counts) beat usable (lt-ltb lastBeat beat l))
+
+        module _ (l : beat ≤ lastBeat) (i : Bool) (g : i ≡ notAboveLast b beat) where
+          pub begin-by-20 : i ≡ true → Begun (starts.Refused 20) b
+          begin-by-20 v = begin-by 20 (begin-20 (stateOf b names counts) beat usable (le-ltb lastBeat beat l) (sym g ∙ v))
+
+          pub begins : (c : Bench) → i ≡ false → c ≡ begunBench b beat → Begun starts.Done c
+          unfolding startReply
+          begins c v h =
+              rw (begin-done (stateOf b names counts) beat usable (le-ltb lastBeat beat l) (sym g ∙ v))
+              (record { answered = refl; bench = h; nameList = refl; countList = refl })
 
 -- ---- Receive
 
-module _ (b : Bench) (names counts bytes : List ℕ) (r : Bool) (e : r ≡ beyond b) where
-  pub receive-by-9 : r ≡ true → Receives (receiveOf (stateOf b names counts) bytes) (record { answer = takings.Refused 9; bench = b }) names counts
-  unfolding receiveOf takenReply
-  receive-by-9 t = rw (← e, t) (record { answered = refl; bench = refl; nameList = refl; countList = refl })
+module _ (b : Bench) (names counts bytes : List ℕ) where
+  -- refused by k: all is as it was
+  receive-by : (k : ℕ) (t : Step) → t ≡ refuse (stateOf b names counts) [] k → Receives t (record { answer = takings.Refused k; bench = b }) names counts
+  unfolding takenReply
+  receive-by k t o = rw o (record { answered = refl; bench = refl; nameList = refl; countList = refl })
 
-  module _ (t : r ≡ false) (q : Bool) (f : q ≡ shortLists (lentAs names counts)) where
-    pub receive-by-8 : q ≡ true → Receives (receiveOf (stateOf b names counts) bytes) (record { answer = takings.Refused 8; bench = b }) names counts
-    unfolding receiveOf takenReply
-    receive-by-8 u = rw (← e, t, ← f, u) (record { answered = refl; bench = refl; nameList = refl; countList = refl })
+  abbrev Refused : ℕ → Type 0
+  Refused k = Receives (receiveOf (stateOf b names counts) bytes) (record { answer = takings.Refused k; bench = b }) names counts
 
-    module _ (u : q ≡ false) (i : Bool) (g : i ≡ idle b) where
-      pub receive-by-22 : i ≡ true → Receives (receiveOf (stateOf b names counts) bytes) (record { answer = takings.Refused 22; bench = b }) names counts
-      unfolding receiveOf takenReply
-      receive-by-22 v = rw (← e, t, ← f, u, ← g, v) (record { answered = refl; bench = refl; nameList = refl; countList = refl })
+  module _ (r : Bool) (e : r ≡ beyond b) where
+    pub receive-by-9 : r ≡ true → Refused 9
+    receive-by-9 t = receive-by 9 (receiveOf (stateOf b names counts) bytes) (receive-9 (stateOf b names counts) (sym e ∙ t) bytes)
 
-      pub receives-by : (x : Received) (ns cs : List ℕ) → i ≡ false → Receives (receives (stateOf b names counts) bytes (readOf (b .n) bytes)) x ns cs
-          → Receives (receiveOf (stateOf b names counts) bytes) x ns cs
-      unfolding receiveOf
-      receives-by x ns cs v h = rw (← e, t, ← f, u, ← g, v) h
+    module _ (t : r ≡ false) (q : Bool) (f : q ≡ shortLists (lentAs names counts)) where
+      pub receive-by-8 : q ≡ true → Refused 8
+      receive-by-8 u = receive-by 8 (receiveOf (stateOf b names counts) bytes) (receive-8 (stateOf b names counts) (sym e ∙ t) (sym f ∙ u) bytes)
+
+      module _ (u : q ≡ false) (i : Bool) (g : i ≡ idle b) where
+        pub receive-by-22 : i ≡ true → Refused 22
+        receive-by-22 v =
+            receive-by 22 (receiveOf (stateOf b names counts) bytes) (receive-22 (stateOf b names counts) bytes (is-usable b names counts r q e t f u) (sym g ∙ v))
+
+        pub receives-by : (x : Received) (ns cs : List ℕ) → i ≡ false → Receives (receives (stateOf b names counts) bytes (readOf (b .n) bytes)) x ns cs
+            → Receives (receiveOf (stateOf b names counts) bytes) x ns cs
+        receives-by x ns cs v h = rw (receive-on (stateOf b names counts) bytes (is-usable b names counts r q e t f u) (sym g ∙ v)) h
 
 -- ---- a message read
 
 module _ (b : Bench) (names counts bytes : List ℕ) (r : Message) (e : readingOf bytes r ≡ readOf (b .n) bytes) where
   pub read-refused : (k : ℕ) → r ≡ answers.Refused k
       → Receives (receives (stateOf b names counts) bytes (readOf (b .n) bytes)) (record { answer = takings.Refused k; bench = b }) names counts
-  unfolding takenReply
-  read-refused k h = rw (read-as-refused (b .n) bytes r k e h) (record { answered = refl; bench = refl; nameList = refl; countList = refl })
+  read-refused k h =
+      receive-by b names counts bytes k (receives (stateOf b names counts) bytes (readOf (b .n) bytes))
+      (ap (receives (stateOf b names counts) bytes) (read-as-refused (b .n) bytes r k e h))
 
   module _ (head : Head) (x : Received) (ns cs : List ℕ) where
     pub read-log : r ≡ answers.Log head → Receives (receives (stateOf b names counts) bytes (means (logMessage (contentOf bytes head)))) x ns cs

@@ -6,7 +6,6 @@ use mathlib.Core.Option.{Option, some}
 use mathlib.Core.Path.{_≡_, refl, sym, ap, _∙_}
 use borrow.Author.Tests.{le-leb, lt-leb}
 use lib.Dec.{leb}
-use Rattle.message.specs.Limits.{mostBlocks}
 use Rattle.message.specs.Logs.{Log, isPrefix}
 use Rattle.message.specs.Store.{logAt, within, prefixAt, Stores, copyOf}
 use Rattle.message.proofs.ListedLaws.{length-at}
@@ -17,26 +16,26 @@ use Rattle.agreement.specs.Grades.{Gives}
 use Rattle.agreement.specs.declared.Agreement.{Agreement}
 use Rattle.agreement.specs.declared.Grade.{Grade}
 use Rattle.agreement.specs.declared.Grade.the-variants.{Longest, Nothing}
-use Rattle.bench.specs.Layout.{logsPlace, decidedPlace, shortLists}
+use Rattle.bench.specs.Layout.{logsPlace, decidedPlace}
 use Rattle.bench.specs.Calendar.{lastView, deciding}
 use Rattle.bench.specs.Calls.{State}
 use Rattle.bench.specs.Record.{agreementOf, withAgreement, withDecided, withParted}
 use Rattle.bench.specs.ByRecord.{decisionOf, settled, snappedOne, snappedTwo, changed}
 use Rattle.bench.specs.Answers.{lentAs, stateOf}
-use Rattle.bench.specs.Steps.{Before, Leaves, Snaps}
+use Rattle.bench.specs.Steps.{Usable, Before, Leaves, Snaps}
 use Rattle.bench.specs.declared.Bench.{Bench}
 use Rattle.bench.proofs.SeeingLaws.{seen-none, seen-at}
-use Rattle.bench.proofs.TestedLaws.{before-within, decided-within}
+use Rattle.bench.proofs.TestedLaws.{within-limits, before-within, decided-within}
 
 -- ---- a log of k blocks at place a is decided
 
-module _ (b : Bench) (names counts : List ℕ) (a k : ℕ) (few : b .decided ≤ mostBlocks) (lists : shortLists (lentAs names counts) ≡ false) (before : Before a k) where
+module _ (b : Bench) (names counts : List ℕ) (a k : ℕ) (u : Usable (stateOf b names counts)) (before : Before a k) where
   -- the decided log and what is decided lie within the lists
   old-within : within names counts decidedPlace (b .decided) ≡ true
-  old-within = decided-within (lentAs names counts) lists (b .decided) few
+  old-within = decided-within (lentAs names counts) (u .lists) (b .decided) (within-limits b (u .limits) .0)
 
   new-within : within names counts a k ≡ true
-  new-within = before-within (lentAs names counts) lists a k before
+  new-within = before-within (lentAs names counts) (u .lists) a k before
 
   abbrev newLog : Log
   newLog = logAt names counts a k
@@ -56,7 +55,7 @@ module _ (b : Bench) (names counts : List ℕ) (a k : ℕ) (few : b .decided ≤
     unfolding settled
     settle-extends t done ns cs s =
         let ok : (leb (a + k) decidedPlace && within names counts decidedPlace k) ≡ true =
-        rw (le-leb (a + k) decidedPlace (before .0), decided-within (lentAs names counts) lists k (before .1)) in
+        rw (le-leb (a + k) decidedPlace (before .0), decided-within (lentAs names counts) (u .lists) k (before .1)) in
         let w = stored-inside (leb (a + k) decidedPlace && within names counts decidedPlace k) names counts decidedPlace newLog done ns cs ok s in
         rw (sym extends-is ∙ t) (record { bench = rw (length-at names counts a k) refl; nameList = w .1 .0; countList = w .1 .1 })
 

@@ -17,6 +17,7 @@ use Rattle.bench.specs.Calendar.{lastBeat, viewOf, placeIn, actAt}
 use Rattle.bench.specs.Calls.{refused, done, took, acted, Step, openTo, State}
 use Rattle.bench.specs.Record.{freshBench, beatOf, idle, beyond}
 use Rattle.bench.specs.ByRecord.{refuse, notOpened, openOf, begun, beginOf, fileMessage, taken, receives, receiveOf, actedOf, over, actOf}
+use Rattle.bench.specs.Steps.{Usable}
 use Rattle.bench.proofs.ReadRefusals.{ReadCause, read-refuses, read-cause, read-number}
 
 -- ---- answers apart
@@ -73,11 +74,6 @@ no-bench k = refl
 
 -- ---- Begin, Receive, Act: 9 and 8 come first in each
 
--- neither of them holds
-pub record Usable (s : State) : Type 0 where
-  pub within : beyond (s .bench) ≡ false
-  pub room : shortLists (s .lent) ≡ false
-
 -- what is left by a call that is refused
 leaves : {s : State} {out : List ℕ} {k : ℕ} {t : Step} → t ≡ refuse s out k → (t .held ≡ s) × (t .answer .out ≡ out)
 leaves e = (ap (λ (x : Step). x .held) e, ap (λ (x : Step). x .answer .out) e)
@@ -113,15 +109,15 @@ module _ (s : State) (e : beyond (s .bench) ≡ false) (f : shortLists (s .lent)
 module _ (s : State) (beat : ℕ) where
   pub begin-10 : Usable s → ltb lastBeat beat ≡ true → beginOf s beat ≡ refuse s [] 10
   unfolding beginOf
-  begin-10 u g = rw (u .within, u .room, g)
+  begin-10 u g = rw (u .limits, u .lists, g)
 
   pub begin-20 : Usable s → ltb lastBeat beat ≡ false → ltb beat (s .bench .next) ≡ true → beginOf s beat ≡ refuse s [] 20
   unfolding beginOf
-  begin-20 u g h = rw (u .within, u .room, g, h)
+  begin-20 u g h = rw (u .limits, u .lists, g, h)
 
   pub begin-done : Usable s → ltb lastBeat beat ≡ false → ltb beat (s .bench .next) ≡ false → beginOf s beat ≡ begun s beat
   unfolding beginOf
-  begin-done u g h = rw (u .within, u .room, g, h)
+  begin-done u g h = rw (u .limits, u .lists, g, h)
 
   -- Begin refuses by k
   pub data BeginCause : ℕ → Type 0 where
@@ -135,7 +131,7 @@ module _ (s : State) (beat : ℕ) where
   begin-cause k r =
       either (beyond (s .bench)) (λ e. subst BeginCause (same-number 9 k (rw e at r)) (begin-limits e)) (λ e.
       either (shortLists (s .lent)) (λ f. subst BeginCause (same-number 8 k (rw (e, f) at r)) (begin-lists e f)) (λ f.
-      let u : Usable s = record { within = e; room = f } in
+      let u : Usable s = record { limits = e; lists = f } in
       either (ltb lastBeat beat) (λ g. subst BeginCause (same-number 10 k (rw (e, f, g) at r)) (begin-late u g)) (λ g.
       either (ltb beat (s .bench .next)) (λ h. subst BeginCause (same-number 20 k (rw (e, f, g, h) at r)) (begin-again u g h)) (λ h.
       done-apart k (rw (e, f, g, h) at r)))))
@@ -167,13 +163,13 @@ begin-lent s beat =
 module _ (s : State) (bytes : List ℕ) where
   pub receive-22 : Usable s → idle (s .bench) ≡ true → receiveOf s bytes ≡ refuse s [] 22
   unfolding receiveOf
-  receive-22 u g = rw (u .within, u .room, g)
+  receive-22 u g = rw (u .limits, u .lists, g)
 
   -- in a gathering the message is judged
   module _ (u : Usable s) (g : idle (s .bench) ≡ false) where
-    receive-on : receiveOf s bytes ≡ receives s bytes (readOf (s .bench .n) bytes)
+    pub receive-on : receiveOf s bytes ≡ receives s bytes (readOf (s .bench .n) bytes)
     unfolding receiveOf
-    receive-on = rw (u .within, u .room, g)
+    receive-on = rw (u .limits, u .lists, g)
 
     -- 1 to 6
     pub receive-unreadable : {k : ℕ} → ReadCause (s .bench .n) bytes k → receiveOf s bytes ≡ refuse s [] k
@@ -200,7 +196,7 @@ module _ (s : State) (bytes : List ℕ) where
   receive-cause k r =
       either (beyond (s .bench)) (λ e. subst ReceiveCause (same-number 9 k (rw e at r)) (receive-limits e)) (λ e.
       either (shortLists (s .lent)) (λ f. subst ReceiveCause (same-number 8 k (rw (e, f) at r)) (receive-lists e f)) (λ f.
-      let u : Usable s = record { within = e; room = f } in
+      let u : Usable s = record { limits = e; lists = f } in
       either (idle (s .bench)) (λ g. subst ReceiveCause (same-number 22 k (rw (e, f, g) at r)) (receive-idle u g)) (λ g.
       judged u g (readOf (s .bench .n) bytes) refl (rw (e, f, g) at r))))
     where
@@ -230,16 +226,16 @@ module _ (s : State) (bytes : List ℕ) where
 module _ (s : State) (block : Block) (priority : ℕ) (out : List ℕ) where
   pub act-11 : Usable s → ltb (length out) mostBytes ≡ true → actOf s block priority out ≡ refuse s out 11
   unfolding actOf
-  act-11 u g = rw (u .within, u .room, g)
+  act-11 u g = rw (u .limits, u .lists, g)
 
   pub act-22 : Usable s → ltb (length out) mostBytes ≡ false → idle (s .bench) ≡ true → actOf s block priority out ≡ refuse s out 22
   unfolding actOf
-  act-22 u g h = rw (u .within, u .room, g, h)
+  act-22 u g h = rw (u .limits, u .lists, g, h)
 
   pub act-done : Usable s → ltb (length out) mostBytes ≡ false → idle (s .bench) ≡ false
       → actOf s block priority out ≡ actedOf (over s) block priority out (viewOf (beatOf (s .bench))) (actAt (placeIn (beatOf (s .bench))))
   unfolding actOf
-  act-done u g h = rw (u .within, u .room, g, h)
+  act-done u g h = rw (u .limits, u .lists, g, h)
 
   -- Act refuses by k
   pub data ActCause : ℕ → Type 0 where
@@ -253,7 +249,7 @@ module _ (s : State) (block : Block) (priority : ℕ) (out : List ℕ) where
   act-cause k r =
       either (beyond (s .bench)) (λ e. subst ActCause (same-number 9 k (rw e at r)) (act-limits e)) (λ e.
       either (shortLists (s .lent)) (λ f. subst ActCause (same-number 8 k (rw (e, f) at r)) (act-lists e f)) (λ f.
-      let u : Usable s = record { within = e; room = f } in
+      let u : Usable s = record { limits = e; lists = f } in
       either (ltb (length out) mostBytes) (λ g. subst ActCause (same-number 11 k (rw (e, f, g) at r)) (act-buffer u g)) (λ g.
       either (idle (s .bench)) (λ h. subst ActCause (same-number 22 k (rw (e, f, g, h) at r)) (act-idle u g h)) (λ h.
       acted-apart _ k (rw (e, f, g, h) at r)))))

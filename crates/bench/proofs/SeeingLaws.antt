@@ -27,12 +27,12 @@ use Rattle.agreement.specs.declared.Choice.{Choice}
 use Rattle.agreement.specs.declared.Choice.the-variants.{Proposal, Lock}
 use Rattle.agreement.proofs.ChoiceLaws.{best-place, choice-fits}
 use Rattle.agreement.proofs.RecordLaws.{choice-voted}
-use Rattle.bench.specs.Layout.{logsPlace, proposalsPlace, decidedPlace, shortLists}
+use Rattle.bench.specs.Layout.{logsPlace, proposalsPlace, decidedPlace}
 use Rattle.bench.specs.Calls.{State}
-use Rattle.bench.specs.Record.{agreementOf, proposalsOf, beyond}
+use Rattle.bench.specs.Record.{agreementOf, proposalsOf}
 use Rattle.bench.specs.ByRecord.{candidateOf, lockOf, decisionOf, seenOf}
 use Rattle.bench.specs.Answers.{lentAs, stateOf}
-use Rattle.bench.specs.Steps.{Finds, ballot, ballotOf}
+use Rattle.bench.specs.Steps.{Usable, Finds, ballot, ballotOf}
 use Rattle.bench.specs.declared.Bench.{Bench}
 use Rattle.bench.specs.declared.seeing.Found.the-variants.{At, Nowhere}
 use Rattle.bench.proofs.TestedLaws.{within-limits, lists-roomy, before-within}
@@ -137,7 +137,7 @@ module _ (b : Bench) (names counts : List ℕ) (v : ℕ) where
     pub ballot-none : r ≡ Nothing → Finds (ballotOf s v) names counts Nowhere
     ballot-none e = record { log = ap (ballot (seenOf s v .choose)) (seen-none (lockOf s v) names counts v r given e .log); before = tt }
 
-    module _ (limits : beyond b ≡ false) (lists : shortLists (lentAs names counts) ≡ false) (i k a : ℕ) (e : r ≡ Longest i k)
+    module _ (u : Usable s) (i k a : ℕ) (e : r ≡ Longest i k)
         (p : a ≡ placeOf (logsPlace (v - 1)) i) (g : Proposals) (eg : g ≡ proposalsOf b v)
         (choice : Choice) (w : Chooses (choiceOf names counts proposalsPlace g a k) choice) where
       lock : Finds (lockOf s v) names counts (At a k)
@@ -151,14 +151,14 @@ module _ (b : Bench) (names counts : List ℕ) (v : ℕ) where
 
       room : lacksRoom names counts proposalsPlace ≡ false
       room =
-          let (n, m) = lists-roomy (lentAs names counts) lists in
+          let (n, m) = lists-roomy (lentAs names counts) (u .lists) in
           rw (le-ltb (length names) (proposalsPlace + span) (omega arith), le-ltb (length counts) (proposalsPlace + span) (omega arith))
 
       lock-within : within names counts a k ≡ true
-      lock-within = before-within (lentAs names counts) lists a k (lock .before)
+      lock-within = before-within (lentAs names counts) (u .lists) a k (lock .before)
 
       short : (i : ℕ) → i < mostSenders → getD (proposalsOf b v .lengths) i 0 ≤ mostBlocks
-      short = proposed-short b (within-limits b limits .1) v
+      short = proposed-short b (within-limits b (u .limits) .1) v
 
       choice-is : choiceOf names counts proposalsPlace (proposalsOf b v) a k ≡ chosen choice
       choice-is = sym (w .sender ∙ ap (λ (h : Proposals). choiceOf names counts proposalsPlace h a k) eg)

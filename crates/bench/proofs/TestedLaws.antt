@@ -16,7 +16,7 @@ use Rattle.bench.specs.Calendar.{lastBeat}
 use Rattle.bench.specs.Calls.{State}
 use Rattle.bench.specs.Record.{withGatheringOver, beyondAgreement, beyondProposals, beyond}
 use Rattle.bench.specs.Answers.{lentAs, stateOf}
-use Rattle.bench.specs.Steps.{Tested, Before}
+use Rattle.bench.specs.Steps.{Usable, Tested, Before}
 use Rattle.bench.specs.declared.Bench.{Bench}
 
 -- ---- the record
@@ -52,23 +52,24 @@ module _ (l : Lent) (e : shortLists l ≡ false) where
   pub decided-within : (k : ℕ) → k ≤ mostBlocks → within (l .names) (l .counts) decidedPlace k ≡ true
   decided-within k h = lies-within decidedPlace k h (omega arith)
 
--- ---- all that an Act has tested
+-- ---- all that was tested, as the code finds it
+
+pub is-usable : (b : Bench) (names counts : List ℕ) (r q : Bool) → r ≡ beyond b → r ≡ false → q ≡ shortLists (lentAs names counts) → q ≡ false
+    → Usable (stateOf b names counts)
+is-usable b names counts r q e t f u = record { limits = sym e ∙ t; lists = sym f ∙ u }
 
 pub act-asks : (b : Bench) (names counts out : List ℕ) (r q : Bool) → r ≡ beyond b → r ≡ false → q ≡ shortLists (lentAs names counts) → q ≡ false
     → mostBytes ≤ length out → Tested (stateOf b names counts) out
-act-asks b names counts out r q e t f u l = record { limits = sym e ∙ t; lists = sym f ∙ u; room = le-ltb (length out) mostBytes l }
+act-asks b names counts out r q e t f u l = record { usable = is-usable b names counts r q e t f u; room = le-ltb (length out) mostBytes l }
 
 pub long-out : {s : State} {out : List ℕ} → Tested s out → mostBytes ≤ length out
 long-out {s} {out} t = ltb-false (length out) mostBytes (t .room)
 
-module _ (b : Bench) (names counts out : List ℕ) where
-  -- ending the gathering does not matter to it
-  pub tested-over : Tested (stateOf b names counts) out → Tested (stateOf (withGatheringOver b) names counts) out
+-- ending the gathering does not matter to it
+module _ (b : Bench) (names counts out : List ℕ) (t : Tested (stateOf b names counts) out) where
+  pub usable-over : Usable (stateOf (withGatheringOver b) names counts)
   unfolding beyond
-  tested-over t = record { limits = t .limits; lists = t .lists; room = t .room }
+  usable-over = record { limits = t .usable .limits; lists = t .usable .lists }
 
-  pub decided-short : Tested (stateOf b names counts) out → b .decided ≤ mostBlocks
-  decided-short t = within-limits b (t .limits) .0
-
-  pub lists-long : Tested (stateOf b names counts) out → shortLists (lentAs names counts) ≡ false
-  lists-long t = t .lists
+  pub tested-over : Tested (stateOf (withGatheringOver b) names counts) out
+  tested-over = record { usable = usable-over; room = t .room }

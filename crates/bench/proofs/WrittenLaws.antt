@@ -46,7 +46,7 @@ module _ {s : State} {out : List ℕ} {v a k : ℕ} (p : Making s out v a k) whe
   made-room : (n : ℕ) → n ≤ mostBlocks → roomFor out (s .lent .names) (s .lent .counts) a k n ≡ true
   made-room n h =
       let o = long-out (p .tested) in
-      room-yes out (s .lent .names) (s .lent .counts) a k n h (before-within (s .lent) (p .tested .lists) a k (p .before)) (omega arith)
+      room-yes out (s .lent .names) (s .lent .counts) a k n h (before-within (s .lent) (p .tested .usable .lists) a k (p .before)) (omega arith)
 
   makeable : (m : Meaning) → length (logOf m) ≤ mostBlocks → said m .view ≡ v
       → AllBelow (2 ^ 64) (namesOf (logOf m)) → AllBelow (2 ^ 16) (countsOf (logOf m)) → Makeable out m

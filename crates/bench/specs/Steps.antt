@@ -36,11 +36,16 @@ badAt blocks above v e one two =
 abbrev pub badProposalAt : ℕ → Bool → Bool → Bool → Bool
 badProposalAt blocks above filed aside = ltb mostBlocks blocks || ((above && filed) || (above && aside))
 
--- ---- what an Act has tested before it looks at the calendar
+-- ---- what is tested before anything is done
 
-pub record Tested (s : State) (out : List ℕ) : Type 0 where
+-- neither 9 nor 8 is to be given
+pub record Usable (s : State) : Type 0 where
   pub limits : beyond (s .bench) ≡ false
   pub lists : shortLists (s .lent) ≡ false
+
+-- and, by an Act, not 11
+pub record Tested (s : State) (out : List ℕ) : Type 0 where
+  pub usable : Usable s
   pub room : ltb (length out) mostBytes ≡ false
 
 -- ---- a log in the lists

@@ -1,15 +1,10 @@
 // Deciding, and the snapshots.
-ghost use mathlib.Core.Path.{_≡_};
 ghost use mathlib.Core.Option.{some};
-ghost use mathlib.Core.Bool.{false};
-ghost use Prim.Native.Nat.{_≤_};
-ghost use Rattle.message.specs.Limits.{mostBlocks};
 ghost use Rattle.message.specs.Store.{logAt};
-ghost use Rattle.bench.specs.Layout.{shortLists};
 ghost use Rattle.bench.specs.Calendar.{deciding};
 ghost use Rattle.bench.specs.ByRecord.{decisionOf, settled, snappedOne, snappedTwo, changed};
-ghost use Rattle.bench.specs.Answers.{lentAs, stateOf};
-ghost use Rattle.bench.specs.Steps.{Before, Leaves, Snaps};
+ghost use Rattle.bench.specs.Answers.{stateOf};
+ghost use Rattle.bench.specs.Steps.{Usable, Before, Leaves, Snaps};
 use super::Bench;
 use super::DECIDED_PLACE;
 use super::LAST_VIEW;
@@ -23,7 +18,7 @@ use message::store::is_prefix;
 
 // The log of the blocks at place `at` is decided: it extends the decided log, is a prefix of it, or the mark is set.
 fn settle(b: Bench, names: &mut [u64], counts: &mut [u16], at: usize, blocks: u8) -> Bench
-    requires { ⌜ (b .decided ≤ mostBlocks) × ((shortLists (lentAs (now names) (now counts)) ≡ false) × Before at blocks) ⌝ }
+    requires { ⌜ (Usable (stateOf b (now names) (now counts))) × Before at blocks ⌝ }
     ensures { λ r. ⌜ Leaves (settled (stateOf b (now (names .entry)) (now (counts .entry))) (some (logAt (now (names .entry)) (now (counts .entry)) at blocks))) r (now (names .exit)) (now (counts .exit)) ⌝ }
 {
     let old = b.decided as usize;
@@ -43,7 +38,7 @@ fn settle(b: Bench, names: &mut [u64], counts: &mut [u16], at: usize, blocks: u8
 
 // The longest log with grade 2 of the view before v, where there is one, is decided.
 fn decide(b: Bench, names: &mut [u64], counts: &mut [u16], v: u32) -> Bench
-    requires { ⌜ (b .decided ≤ mostBlocks) × (shortLists (lentAs (now names) (now counts)) ≡ false) ⌝ }
+    requires { ⌜ Usable (stateOf b (now names) (now counts)) ⌝ }
     ensures { λ r. ⌜ Leaves (settled (stateOf b (now (names .entry)) (now (counts .entry))) (decisionOf (stateOf b (now (names .entry)) (now (counts .entry))) v)) r (now (names .exit)) (now (counts .exit)) ⌝ }
 {
     let Grade::Longest(i, blocks) = decision(b, names, counts, v) else {
@@ -77,7 +72,7 @@ pub(crate) fn snap_two(b: Bench, v: u32) -> Bench
 
 // The deciding act of view v: it decides first, and then takes its snapshot.
 pub(crate) fn close(b: Bench, names: &mut [u64], counts: &mut [u16], v: u32) -> Bench
-    requires { ⌜ (b .decided ≤ mostBlocks) × (shortLists (lentAs (now names) (now counts)) ≡ false) ⌝ }
+    requires { ⌜ Usable (stateOf b (now names) (now counts)) ⌝ }
     ensures { λ r. ⌜ Leaves (changed (stateOf b (now (names .entry)) (now (counts .entry))) v deciding) r (now (names .exit)) (now (counts .exit)) ⌝ }
 {
     let c = decide(b, names, counts, v);

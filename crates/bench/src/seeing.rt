@@ -1,14 +1,12 @@
 // What an act sees of the agreement before, by the grade's answer, and the log it votes for.
 ghost use mathlib.Core.Path.{_≡_};
-ghost use mathlib.Core.Bool.{false};
 ghost use Prim.Native.Nat.{_-_};
 ghost use Rattle.agreement.specs.Limits.{placeOf};
 ghost use Rattle.agreement.specs.Grades.{Gives};
-ghost use Rattle.bench.specs.Layout.{logsPlace, shortLists};
-ghost use Rattle.bench.specs.Record.{beyond};
+ghost use Rattle.bench.specs.Layout.{logsPlace};
 ghost use Rattle.bench.specs.ByRecord.{candidateOf, lockOf, decisionOf};
-ghost use Rattle.bench.specs.Answers.{lentAs, stateOf};
-ghost use Rattle.bench.specs.Steps.{Finds, ballotOf};
+ghost use Rattle.bench.specs.Answers.{stateOf};
+ghost use Rattle.bench.specs.Steps.{Usable, Finds, ballotOf};
 use super::Bench;
 use super::MOST_BLOCKS;
 use super::PROPOSALS_PLACE;
@@ -73,7 +71,7 @@ pub(crate) fn decision(b: Bench, names: &[u64], counts: &[u16], v: u32) -> Grade
 
 // The log voted for: the best proposal of view v that has the lock as a prefix, else the lock; none without a lock.
 pub(crate) fn ballot(b: Bench, names: &[u64], counts: &[u16], v: u32) -> Found
-    requires { ⌜ (beyond b ≡ false) × (shortLists (lentAs (now names) (now counts)) ≡ false) ⌝ }
+    requires { ⌜ Usable (stateOf b (now names) (now counts)) ⌝ }
     ensures { λ r. ⌜ Finds (ballotOf (stateOf b (now (names .entry)) (now (counts .entry))) v) (now (names .entry)) (now (counts .entry)) r ⌝ }
 {
     let Grade::Longest(i, blocks) = lock(b, names, counts, v) else {

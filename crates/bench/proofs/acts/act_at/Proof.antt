@@ -1,4 +1,4 @@
-use Rattle.bench.proofs.TestedLaws.{tested-over, decided-short, lists-long}
+use Rattle.bench.proofs.TestedLaws.{usable-over, tested-over}
 use Rattle.bench.proofs.ActCases.{proposed, voted, decided, snapped-two}
 use borrow.Author.Needs.{needs}
 use Rattle.bench.proofs.acts.act_at.Statement.{statement}
@@ -43,7 +43,7 @@ returns-2 : tie.Need-returns-2
 returns-2 c = search voted
 
 close-requires : tie.Need-close-requires
-close-requires c κs = (search decided-short, search lists-long)
+close-requires c κs = search usable-over
 
 same-length-7 : tie.Need-same-length-7
 same-length-7 c = search needs

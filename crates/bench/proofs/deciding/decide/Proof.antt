@@ -28,7 +28,7 @@ place-before-requires : tie.Need-place-before-requires
 place-before-requires c κs = search needs
 
 settle-requires : tie.Need-settle-requires
-settle-requires c κs = (search needs, (search needs, search decision-before))
+settle-requires c κs = (search needs, search decision-before)
 
 same-length-3 : tie.Need-same-length-3
 same-length-3 c = search needs
