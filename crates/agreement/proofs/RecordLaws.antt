@@ -21,7 +21,7 @@ use Rattle.agreement.specs.Reading.{longest}
 use Rattle.agreement.specs.Record.{isVoter, isEquivocator, filedLog, lacksRoom, overlong, readingOf}
 use Rattle.agreement.specs.Grades.{gradeAmong, gradeZero, gradeOne, gradeTwo}
 use Rattle.agreement.specs.Kept.{Kept, nothing, only, differing, singleOf, heardOf, keptLog, Proposed, keptProposal}
-use Rattle.agreement.specs.Heard.{onlyLog, readingFrom, gradeNow, gradeWith, mayChoose, priorityOf, orLock, voteAmong}
+use Rattle.agreement.specs.Heard.{proposedLog, onlyLog, readingFrom, gradeNow, gradeWith, mayChoose, priorityOf, orLock, voteAmong}
 use Rattle.agreement.specs.Proposals.{fits, ifFits, bestOf, choiceOf}
 use Rattle.agreement.specs.declared.Agreement.{Agreement}
 use Rattle.agreement.specs.declared.Proposals.{Proposals}
@@ -243,3 +243,18 @@ module _ (names counts : List ℕ) (base : ℕ) (g : Proposals) (a k : ℕ) (roo
       ≡ voteAmong mostSenders (keptProposal names counts base g) (logAt names counts a k)
   unfolding voteAmong
   choice-voted = ap (orLock (keptProposal names counts base g) (logAt names counts a k)) choice-vote
+
+-- a proposal that fits is kept: filed, and not set aside
+pub fits-log : (names counts : List ℕ) (base : ℕ) (g : Proposals) (a k i : ℕ) → fits names counts base g a k i ≡ true
+    → proposedLog (keptProposal names counts base g i) ≡ filedLog names counts base (g .lengths) i
+unfolding keptProposal
+fits-log names counts base g a k i e =
+    go (member (g .filed) i) (member (g .aside) i) (prefixAt names counts a k (placeOf base i) (getD (g .lengths) i 0)) e
+  where
+    kept : Proposed
+    kept = record { log = filedLog names counts base (g .lengths) i; priority = getD (g .priorities) i 0 }
+
+    go : (f s t : Bool) → (f && (not s && t)) ≡ true → proposedLog (pick s differing (pick f (only kept) nothing)) ≡ kept .log
+    go true true t q = absurd (false≢true q)
+    go true false t q = refl
+    go false s t q = absurd (false≢true q)

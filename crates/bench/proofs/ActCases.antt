@@ -12,7 +12,7 @@ use Rattle.bench.specs.Calls.{State}
 use Rattle.bench.specs.Acts.{makes}
 use Rattle.bench.specs.Record.{beatOf, idle, withGatheringOver, beyond}
 use Rattle.bench.specs.ByRecord.{refuse, settled, snappedTwo, changed, actedOf, over, actOf}
-use Rattle.bench.specs.Answers.{lentAs, stateOf, madeReply, Acts}
+use Rattle.bench.specs.Answers.{lentAs, stateOf, madeReply, ActGives}
 use Rattle.bench.specs.Steps.{Usable, noBlock, Leaves, Snaps}
 use Rattle.bench.specs.declared.Bench.{Bench}
 use Rattle.bench.specs.declared.Acted.{Acted}
@@ -31,40 +31,40 @@ after-second (suc (suc (suc p))) a b c = refl
 module _ (b : Bench) (names counts out : List ℕ) where
   module _ (block : Block) (priority beat : ℕ) (x : Acted) (ns cs o : List ℕ) (h : beat ≡ beatOf b) where
     -- the act of this row at the beat of the gathering
-    row : (a : Act) → actAt (placeIn beat) ≡ a → Acts (actedOf (over (stateOf b names counts)) block priority out (viewOf beat) a) x ns cs o
-        → Acts (actedOf (over (stateOf b names counts)) block priority out (viewOf (beatOf b)) (actAt (placeIn (beatOf b)))) x ns cs o
+    row : (a : Act) → actAt (placeIn beat) ≡ a → ActGives (actedOf (over (stateOf b names counts)) block priority out (viewOf beat) a) x ns cs o
+        → ActGives (actedOf (over (stateOf b names counts)) block priority out (viewOf (beatOf b)) (actAt (placeIn (beatOf b)))) x ns cs o
     row a e f =
         subst
-        (λ (k : ℕ). Acts (actedOf (over (stateOf b names counts)) block priority out (viewOf k) (actAt (placeIn k))) x ns cs o)
+        (λ (k : ℕ). ActGives (actedOf (over (stateOf b names counts)) block priority out (viewOf k) (actAt (placeIn k))) x ns cs o)
         h
-        (subst (λ (r : Act). Acts (actedOf (over (stateOf b names counts)) block priority out (viewOf beat) r) x ns cs o) (sym e) f)
+        (subst (λ (r : Act). ActGives (actedOf (over (stateOf b names counts)) block priority out (viewOf beat) r) x ns cs o) (sym e) f)
 
-    pub proposed : placeIn beat ≡ 0 → Acts (actedOf (stateOf (withGatheringOver b) names counts) block priority out (viewOf beat) proposing) x ns cs o
-        → Acts (actedOf (over (stateOf b names counts)) block priority out (viewOf (beatOf b)) (actAt (placeIn (beatOf b)))) x ns cs o
+    pub proposed : placeIn beat ≡ 0 → ActGives (actedOf (stateOf (withGatheringOver b) names counts) block priority out (viewOf beat) proposing) x ns cs o
+        → ActGives (actedOf (over (stateOf b names counts)) block priority out (viewOf (beatOf b)) (actAt (placeIn (beatOf b)))) x ns cs o
     proposed e f = row proposing (ap actAt e) f
 
     -- no block is used
-    vote-any : Acts (actedOf (stateOf (withGatheringOver b) names counts) noBlock 0 out (viewOf beat) voting) x ns cs o
-        → Acts (actedOf (over (stateOf b names counts)) block priority out (viewOf beat) voting) x ns cs o
+    vote-any : ActGives (actedOf (stateOf (withGatheringOver b) names counts) noBlock 0 out (viewOf beat) voting) x ns cs o
+        → ActGives (actedOf (over (stateOf b names counts)) block priority out (viewOf beat) voting) x ns cs o
     unfolding actedOf makes
     vote-any f = f
 
-    pub voted : placeIn beat ≡ 1 → Acts (actedOf (stateOf (withGatheringOver b) names counts) noBlock 0 out (viewOf beat) voting) x ns cs o
-        → Acts (actedOf (over (stateOf b names counts)) block priority out (viewOf (beatOf b)) (actAt (placeIn (beatOf b)))) x ns cs o
+    pub voted : placeIn beat ≡ 1 → ActGives (actedOf (stateOf (withGatheringOver b) names counts) noBlock 0 out (viewOf beat) voting) x ns cs o
+        → ActGives (actedOf (over (stateOf b names counts)) block priority out (viewOf (beatOf b)) (actAt (placeIn (beatOf b)))) x ns cs o
     voted e f = row voting (ap actAt e) (vote-any f)
 
   module _ (block : Block) (priority beat : ℕ) (c : Bench) (h : beat ≡ beatOf b) where
     still : (ns cs : List ℕ) → Leaves (changed (over (stateOf b names counts)) (viewOf beat) deciding) c ns cs
-        → Acts (actedOf (over (stateOf b names counts)) block priority out (viewOf beat) deciding) (record { answer = makings.Nothing; bench = c }) ns cs out
+        → ActGives (actedOf (over (stateOf b names counts)) block priority out (viewOf beat) deciding) (record { answer = makings.Nothing; bench = c }) ns cs out
     unfolding actedOf makes madeReply
     still ns cs f = record { answered = refl; bench = f .bench; nameList = f .nameList; countList = f .countList; buffer = refl }
 
     pub decided : (ns cs : List ℕ) → placeIn beat ≡ 2 → Leaves (changed (stateOf (withGatheringOver b) names counts) (viewOf beat) deciding) c ns cs
-        → Acts (actedOf (over (stateOf b names counts)) block priority out (viewOf (beatOf b)) (actAt (placeIn (beatOf b)))) (record { answer = makings.Nothing; bench = c }) ns cs out
+        → ActGives (actedOf (over (stateOf b names counts)) block priority out (viewOf (beatOf b)) (actAt (placeIn (beatOf b)))) (record { answer = makings.Nothing; bench = c }) ns cs out
     decided ns cs e f = row block priority beat (record { answer = makings.Nothing; bench = c }) ns cs out h deciding (ap actAt e) (still ns cs f)
 
     snaps : Snaps (snappedTwo (viewOf beat)) (withGatheringOver b) c
-        → Acts (actedOf (over (stateOf b names counts)) block priority out (viewOf beat) snapping) (record { answer = makings.Nothing; bench = c }) names counts out
+        → ActGives (actedOf (over (stateOf b names counts)) block priority out (viewOf beat) snapping) (record { answer = makings.Nothing; bench = c }) names counts out
     unfolding actedOf makes madeReply changed settled
     snaps f =
         let e = f .whole names counts in
@@ -77,7 +77,7 @@ module _ (b : Bench) (names counts out : List ℕ) where
         }
 
     pub snapped-two : (placeIn beat ≡ 0 → ⊥) → (placeIn beat ≡ 1 → ⊥) → (placeIn beat ≡ 2 → ⊥) → Snaps (snappedTwo (viewOf beat)) (withGatheringOver b) c
-        → Acts (actedOf (over (stateOf b names counts)) block priority out (viewOf (beatOf b)) (actAt (placeIn (beatOf b)))) (record { answer = makings.Nothing; bench = c }) names counts out
+        → ActGives (actedOf (over (stateOf b names counts)) block priority out (viewOf (beatOf b)) (actAt (placeIn (beatOf b)))) (record { answer = makings.Nothing; bench = c }) names counts out
     snapped-two p q r f =
         row block priority beat (record { answer = makings.Nothing; bench = c }) names counts out h snapping (after-second (placeIn beat) p q r) (snaps f)
 
@@ -85,7 +85,7 @@ module _ (b : Bench) (names counts out : List ℕ) where
 
 module _ (b : Bench) (names counts out : List ℕ) (block : Block) (priority : ℕ) where
   abbrev Refused : ℕ → Type 0
-  Refused k = Acts (actOf (stateOf b names counts) block priority out) (record { answer = makings.Refused k; bench = b }) names counts out
+  Refused k = ActGives (actOf (stateOf b names counts) block priority out) (record { answer = makings.Refused k; bench = b }) names counts out
 
   -- refused by k: all is as it was
   act-by : (k : ℕ) → actOf (stateOf b names counts) block priority out ≡ refuse (stateOf b names counts) out k → Refused k
@@ -112,6 +112,6 @@ module _ (b : Bench) (names counts out : List ℕ) (block : Block) (priority : �
           act-by-22 v = act-by 22 (act-22 (stateOf b names counts) block priority out usable (le-ltb (length out) mostBytes l) (sym g ∙ v))
 
           pub acts-by : (x : Acted) (ns cs o : List ℕ) → i ≡ false
-              → Acts (actedOf (over (stateOf b names counts)) block priority out (viewOf (beatOf b)) (actAt (placeIn (beatOf b)))) x ns cs o
-              → Acts (actOf (stateOf b names counts) block priority out) x ns cs o
+              → ActGives (actedOf (over (stateOf b names counts)) block priority out (viewOf (beatOf b)) (actAt (placeIn (beatOf b)))) x ns cs o
+              → ActGives (actOf (stateOf b names counts) block priority out) x ns cs o
           acts-by x ns cs o v h = rw (act-done (stateOf b names counts) block priority out usable (le-ltb (length out) mostBytes l) (sym g ∙ v)) h

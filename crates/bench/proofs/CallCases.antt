@@ -23,7 +23,7 @@ use Rattle.bench.specs.Calls.{done, took, Opening, Step}
 use Rattle.bench.specs.Record.{freshBench, agreementOf, proposalsOf, beatOf, notAboveLast, idle, beyond, withAgreement, withProposals}
 use Rattle.bench.specs.ByRecord.{refuse, notOpened, openOf, begunBench, beginOf, fileLog, fileProposal, fileMessage, taken, receives, receiveOf}
 use Rattle.bench.specs.Steps.{Usable}
-use Rattle.bench.specs.Answers.{lentAs, stateOf, startReply, takenReply, Opens, Begins, Receives}
+use Rattle.bench.specs.Answers.{lentAs, stateOf, startReply, takenReply, OpenGives, BeginGives, ReceiveGives}
 use Rattle.bench.specs.declared.Bench.{Bench}
 use Rattle.bench.specs.declared.Start.{Start}
 use Rattle.bench.specs.declared.Start.the-variants as starts
@@ -36,21 +36,24 @@ use Rattle.bench.proofs.TestedLaws.{is-usable}
 -- ---- Open
 
 module _ (n own : ℕ) (names counts : List ℕ) (b : Bench) (r : Bool) (e : r ≡ outOfRange n own) where
+  abbrev Opened : Start → Type 0
+  Opened a = OpenGives (openOf n own (lentAs names counts)) (lentAs names counts) (record { answer = a; bench = b }) names counts
+
   -- what is opened, or not
   gives : (t : Opening) (a : Start) → openOf n own (lentAs names counts) ≡ t → startReply a ≡ t .reply → b ≡ t .bench
-      → Opens (openOf n own (lentAs names counts)) (record { answer = a; bench = b })
-  gives t a o q h = rw o (record { answered = q; bench = h })
+      → Opened a
+  gives t a o q h = rw o (record { answered = q; bench = h; nameList = refl; countList = refl })
 
-  pub open-by-7 : r ≡ true → b ≡ freshBench 0 0 → Opens (openOf n own (lentAs names counts)) (record { answer = starts.Refused 7; bench = b })
+  pub open-by-7 : r ≡ true → b ≡ freshBench 0 0 → Opened (starts.Refused 7)
   unfolding startReply
   open-by-7 t h = gives (notOpened 7) (starts.Refused 7) (open-7 n own (lentAs names counts) (sym e ∙ t)) refl h
 
   module _ (t : r ≡ false) (q : Bool) (f : q ≡ shortLists (lentAs names counts)) where
-    pub open-by-8 : q ≡ true → b ≡ freshBench 0 0 → Opens (openOf n own (lentAs names counts)) (record { answer = starts.Refused 8; bench = b })
+    pub open-by-8 : q ≡ true → b ≡ freshBench 0 0 → Opened (starts.Refused 8)
     unfolding startReply
     open-by-8 u h = gives (notOpened 8) (starts.Refused 8) (open-8 n own (lentAs names counts) (sym e ∙ t) (sym f ∙ u)) refl h
 
-    pub opened : q ≡ false → b ≡ freshBench n own → Opens (openOf n own (lentAs names counts)) (record { answer = starts.Done; bench = b })
+    pub opened : q ≡ false → b ≡ freshBench n own → Opened starts.Done
     unfolding startReply
     opened u h = gives (record { reply = done; bench = freshBench n own }) starts.Done (open-done n own (lentAs names counts) (sym e ∙ t) (sym f ∙ u)) refl h
 
@@ -58,7 +61,7 @@ module _ (n own : ℕ) (names counts : List ℕ) (b : Bench) (r : Bool) (e : r �
 
 module _ (b : Bench) (names counts : List ℕ) (beat : ℕ) where
   abbrev Begun : Start → Bench → Type 0
-  Begun a c = Begins (beginOf (stateOf b names counts) beat) (record { answer = a; bench = c }) names counts
+  Begun a c = BeginGives (beginOf (stateOf b names counts) beat) (record { answer = a; bench = c }) names counts
 
   -- refused by k: all is as it was
   begin-by : (k : ℕ) → beginOf (stateOf b names counts) beat ≡ refuse (stateOf b names counts) [] k → Begun (starts.Refused k) b
@@ -94,12 +97,12 @@ module _ (b : Bench) (names counts : List ℕ) (beat : ℕ) where
 
 module _ (b : Bench) (names counts bytes : List ℕ) where
   -- refused by k: all is as it was
-  receive-by : (k : ℕ) (t : Step) → t ≡ refuse (stateOf b names counts) [] k → Receives t (record { answer = takings.Refused k; bench = b }) names counts
+  receive-by : (k : ℕ) (t : Step) → t ≡ refuse (stateOf b names counts) [] k → ReceiveGives t (record { answer = takings.Refused k; bench = b }) names counts
   unfolding takenReply
   receive-by k t o = rw o (record { answered = refl; bench = refl; nameList = refl; countList = refl })
 
   abbrev Refused : ℕ → Type 0
-  Refused k = Receives (receiveOf (stateOf b names counts) bytes) (record { answer = takings.Refused k; bench = b }) names counts
+  Refused k = ReceiveGives (receiveOf (stateOf b names counts) bytes) (record { answer = takings.Refused k; bench = b }) names counts
 
   module _ (r : Bool) (e : r ≡ beyond b) where
     pub receive-by-9 : r ≡ true → Refused 9
@@ -114,27 +117,27 @@ module _ (b : Bench) (names counts bytes : List ℕ) where
         receive-by-22 v =
             receive-by 22 (receiveOf (stateOf b names counts) bytes) (receive-22 (stateOf b names counts) bytes (is-usable b names counts r q e t f u) (sym g ∙ v))
 
-        pub receives-by : (x : Received) (ns cs : List ℕ) → i ≡ false → Receives (receives (stateOf b names counts) bytes (readOf (b .n) bytes)) x ns cs
-            → Receives (receiveOf (stateOf b names counts) bytes) x ns cs
+        pub receives-by : (x : Received) (ns cs : List ℕ) → i ≡ false → ReceiveGives (receives (stateOf b names counts) bytes (readOf (b .n) bytes)) x ns cs
+            → ReceiveGives (receiveOf (stateOf b names counts) bytes) x ns cs
         receives-by x ns cs v h = rw (receive-on (stateOf b names counts) bytes (is-usable b names counts r q e t f u) (sym g ∙ v)) h
 
 -- ---- a message read
 
 module _ (b : Bench) (names counts bytes : List ℕ) (r : Message) (e : readingOf bytes r ≡ readOf (b .n) bytes) where
   pub read-refused : (k : ℕ) → r ≡ answers.Refused k
-      → Receives (receives (stateOf b names counts) bytes (readOf (b .n) bytes)) (record { answer = takings.Refused k; bench = b }) names counts
+      → ReceiveGives (receives (stateOf b names counts) bytes (readOf (b .n) bytes)) (record { answer = takings.Refused k; bench = b }) names counts
   read-refused k h =
       receive-by b names counts bytes k (receives (stateOf b names counts) bytes (readOf (b .n) bytes))
       (ap (receives (stateOf b names counts) bytes) (read-as-refused (b .n) bytes r k e h))
 
   module _ (head : Head) (x : Received) (ns cs : List ℕ) where
-    pub read-log : r ≡ answers.Log head → Receives (receives (stateOf b names counts) bytes (means (logMessage (contentOf bytes head)))) x ns cs
-        → Receives (receives (stateOf b names counts) bytes (readOf (b .n) bytes)) x ns cs
+    pub read-log : r ≡ answers.Log head → ReceiveGives (receives (stateOf b names counts) bytes (means (logMessage (contentOf bytes head)))) x ns cs
+        → ReceiveGives (receives (stateOf b names counts) bytes (readOf (b .n) bytes)) x ns cs
     read-log h f = rw (read-as-log (b .n) bytes r head e h) f
 
     pub read-proposal : (priority : ℕ) → r ≡ answers.Proposal head priority
-        → Receives (receives (stateOf b names counts) bytes (means (proposalMessage (contentOf bytes head) priority))) x ns cs
-        → Receives (receives (stateOf b names counts) bytes (readOf (b .n) bytes)) x ns cs
+        → ReceiveGives (receives (stateOf b names counts) bytes (means (proposalMessage (contentOf bytes head) priority))) x ns cs
+        → ReceiveGives (receives (stateOf b names counts) bytes (readOf (b .n) bytes)) x ns cs
     read-proposal priority h f = rw (read-as-proposal (b .n) bytes r head priority e h) f
 
 -- ---- its window
@@ -142,25 +145,25 @@ module _ (b : Bench) (names counts bytes : List ℕ) (r : Message) (e : readingO
 module _ (b : Bench) (names counts bytes : List ℕ) (head : Head) (beat : ℕ) (r : Bool) (h : beat ≡ beatOf b) where
   module _ (e : r ≡ logWindow (head .view) beat) where
     pub log-shut : r ≡ false
-        → Receives (receives (stateOf b names counts) bytes (means (logMessage (contentOf bytes head)))) (record { answer = takings.Refused 21; bench = b }) names counts
+        → ReceiveGives (receives (stateOf b names counts) bytes (means (logMessage (contentOf bytes head)))) (record { answer = takings.Refused 21; bench = b }) names counts
     unfolding takenReply
     log-shut t = rw (← h, ← e, t) (record { answered = refl; bench = refl; nameList = refl; countList = refl })
 
     pub log-taken : (x : Received) (ns cs : List ℕ) → r ≡ true
-        → Receives (taken (fileLog (stateOf b names counts) bytes (head .view) (head .sender))) x ns cs
-        → Receives (receives (stateOf b names counts) bytes (means (logMessage (contentOf bytes head)))) x ns cs
+        → ReceiveGives (taken (fileLog (stateOf b names counts) bytes (head .view) (head .sender))) x ns cs
+        → ReceiveGives (receives (stateOf b names counts) bytes (means (logMessage (contentOf bytes head)))) x ns cs
     unfolding fileMessage
     log-taken x ns cs t f = rw (← h, ← e, t) f
 
   module _ (priority : ℕ) (e : r ≡ proposalWindow (head .view) beat) where
     pub proposal-shut : r ≡ false
-        → Receives (receives (stateOf b names counts) bytes (means (proposalMessage (contentOf bytes head) priority))) (record { answer = takings.Refused 21; bench = b }) names counts
+        → ReceiveGives (receives (stateOf b names counts) bytes (means (proposalMessage (contentOf bytes head) priority))) (record { answer = takings.Refused 21; bench = b }) names counts
     unfolding takenReply
     proposal-shut t = rw (← h, ← e, t) (record { answered = refl; bench = refl; nameList = refl; countList = refl })
 
     pub proposal-taken : (x : Received) (ns cs : List ℕ) → r ≡ true
-        → Receives (taken (fileProposal (stateOf b names counts) bytes (head .view) (head .sender) priority)) x ns cs
-        → Receives (receives (stateOf b names counts) bytes (means (proposalMessage (contentOf bytes head) priority))) x ns cs
+        → ReceiveGives (taken (fileProposal (stateOf b names counts) bytes (head .view) (head .sender) priority)) x ns cs
+        → ReceiveGives (receives (stateOf b names counts) bytes (means (proposalMessage (contentOf bytes head) priority))) x ns cs
     unfolding fileMessage
     proposal-taken x ns cs t f = rw (← h, ← e, t) f
 
@@ -181,7 +184,7 @@ word-known a e = rw e refl
 module _ (b : Bench) (names counts bytes : List ℕ) (v sender : ℕ) (ns cs : List ℕ) (w : Taken) where
   pub filed-log : (g : Agreement) (base : ℕ) (f : Filed) (c : Bench) → g ≡ agreementOf b v → base ≡ logsPlace v
       → Files (fileOf g names counts base bytes sender) f ns cs → takenReply w ≡ took (wordOf (f .answer)) → c ≡ withAgreement b v (f .agreement)
-      → Receives (taken (fileLog (stateOf b names counts) bytes v sender)) (record { answer = w; bench = c }) ns cs
+      → ReceiveGives (taken (fileLog (stateOf b names counts) bytes v sender)) (record { answer = w; bench = c }) ns cs
   filed-log g base f c h k d a x =
       let t : Files (fileOf (agreementOf b v) names counts (logsPlace v) bytes sender) f ns cs = rw (← h, ← k) d in
       record {
@@ -193,7 +196,7 @@ module _ (b : Bench) (names counts bytes : List ℕ) (v sender : ℕ) (ns cs : L
 
   pub filed-proposal : (priority : ℕ) (g : Proposals) (f : FiledProposal) → g ≡ proposalsOf b v
       → FilesProposal (fileProposalOf g names counts proposalsPlace bytes sender priority) f ns cs → takenReply w ≡ took (wordOf (f .answer))
-      → Receives (taken (fileProposal (stateOf b names counts) bytes v sender priority)) (record { answer = w; bench = withProposals b (f .proposals) }) ns cs
+      → ReceiveGives (taken (fileProposal (stateOf b names counts) bytes v sender priority)) (record { answer = w; bench = withProposals b (f .proposals) }) ns cs
   filed-proposal priority g f h d a =
       let t : FilesProposal (fileProposalOf (proposalsOf b v) names counts proposalsPlace bytes sender priority) f ns cs = rw (← h) d in
       record {

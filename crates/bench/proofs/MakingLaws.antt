@@ -18,7 +18,7 @@ use Rattle.bench.specs.Calendar.{Act, proposing, voting}
 use Rattle.bench.specs.Calls.{State}
 use Rattle.bench.specs.Acts.{propose, vote, makes}
 use Rattle.bench.specs.ByRecord.{settled, changed, candidateOf, lockOf, seenOf, actedOf}
-use Rattle.bench.specs.Answers.{stateOf, madeReply, Acts}
+use Rattle.bench.specs.Answers.{stateOf, madeReply, ActGives}
 use Rattle.bench.specs.Steps.{Tested, foundLog, FoundBefore, Finds, ballot, ballotOf, Making, madeStep, noBlock}
 use Rattle.agreement.specs.Limits.{placeOf}
 use Rattle.agreement.specs.Grades.{Gives}
@@ -40,13 +40,13 @@ nothing-changed s v = (refl, refl)
 
 module _ (s : State) (block : Block) (priority : ℕ) (out : List ℕ) (v : ℕ) (a : Act) (e : changed s v a ≡ s) where
   acts-none : makes (s .bench .own) v block priority (seenOf s v) a ≡ none
-      → Acts (actedOf s block priority out v a) (record { answer = makings.Nothing; bench = s .bench }) (s .lent .names) (s .lent .counts) out
+      → ActGives (actedOf s block priority out v a) (record { answer = makings.Nothing; bench = s .bench }) (s .lent .names) (s .lent .counts) out
   unfolding actedOf madeReply
   acts-none q = rw (e, q) (record { answered = refl; bench = refl; nameList = refl; countList = refl; buffer = refl })
 
   acts-made : (m : Meaning) (r : Acted) (ns cs o : List ℕ) → makes (s .bench .own) v block priority (seenOf s v) a ≡ some m
-      → Acts (madeStep s out m) r ns cs o
-      → Acts (actedOf s block priority out v a) r ns cs o
+      → ActGives (madeStep s out m) r ns cs o
+      → ActGives (actedOf s block priority out v a) r ns cs o
   unfolding actedOf
   acts-made m r ns cs o q t = rw (e, q) t
 
@@ -87,7 +87,7 @@ module _ (b : Bench) (names counts out : List ℕ) (v : ℕ) where
 
   -- nothing is made
   abbrev Still : Block → ℕ → Act → Type 0
-  Still block priority a = Acts (actedOf s block priority out v a) (record { answer = makings.Nothing; bench = b }) names counts out
+  Still block priority a = ActGives (actedOf s block priority out v a) (record { answer = makings.Nothing; bench = b }) names counts out
 
   -- ---- voting
 
@@ -108,8 +108,8 @@ module _ (b : Bench) (names counts out : List ℕ) (v : ℕ) where
       pub vote-making : Tested s out → Making s out v a k
       vote-making t = record { tested = t; early = h; before = subst FoundBefore e (f .before) }
 
-      pub vote-acts : (x : Acted) (ns cs o : List ℕ) → Acts (madeStep s out (logFrom names counts a k (b .own) v)) x ns cs o
-          → Acts (actedOf s noBlock 0 out v voting) x ns cs o
+      pub vote-acts : (x : Acted) (ns cs o : List ℕ) → ActGives (madeStep s out (logFrom names counts a k (b .own) v)) x ns cs o
+          → ActGives (actedOf s noBlock 0 out v voting) x ns cs o
       vote-acts x ns cs o t =
           acts-made s noBlock 0 out v voting (nothing-changed s v .1) (logFrom names counts a k (b .own) v) x ns cs o
           (vote-made ∙ ap (λ (y : Found). votedFor (b .own) v (foundLog names counts y)) e) t
@@ -161,8 +161,8 @@ module _ (b : Bench) (names counts out : List ℕ) (v : ℕ) where
             (propose-at a refl ∙ no-room (b .own) v block priority (logAt names counts a k) named (omega arith))
 
         pub propose-acts : (a : ℕ) → a ≡ placeOf (logsPlace (v - 1)) i → k < mostBlocks → (x : Acted) (ns cs o : List ℕ)
-            → Acts (madeStep s out (proposalFrom names counts a k block (b .own) v priority)) x ns cs o
-            → Acts (actedOf s block priority out v proposing) x ns cs o
+            → ActGives (madeStep s out (proposalFrom names counts a k block (b .own) v priority)) x ns cs o
+            → ActGives (actedOf s block priority out v proposing) x ns cs o
         propose-acts a p h x ns cs o t =
             let l = length-at names counts a k in
             acts-made s block priority out v proposing (nothing-changed s v .0) (proposalFrom names counts a k block (b .own) v priority) x ns cs o

@@ -1,24 +1,22 @@
 -- What an act sees, as the code finds it: a grade's log and the log voted for, each by its place in the lists. Assumes nothing.
 use Prim.Native.Nat.{ℕ, suc, _+_, _-_, _*_, _≤_, _<_}
 use native.Mathlib.Omega.{arith}
-use mathlib.Core.Bool.{Bool, true, false, not, _&&_, false≢true}
+use mathlib.Core.Bool.{true, false}
 use mathlib.Core.List.{List, []}
 use mathlib.Core.Option.{Option, some}
 use mathlib.Core.Path.{_≡_, refl, sym, ap, subst, _∙_}
 use borrow.Author.Tests.{le-ltb}
 use lib.ListN.{length, getD}
 use Rattle.message.specs.Limits.{mostBlocks}
-use Rattle.message.specs.Choice.{pick}
 use Rattle.message.specs.Logs.{Log}
-use Rattle.message.specs.Store.{logAt, within, prefixAt}
+use Rattle.message.specs.Store.{logAt, within}
 use Rattle.message.proofs.ListedLaws.{log-empty}
 use Rattle.agreement.specs.Limits.{mostSenders, span, placeOf}
-use Rattle.agreement.specs.Sets.{member}
-use Rattle.agreement.specs.Record.{filedLog, lacksRoom}
+use Rattle.agreement.specs.Record.{lacksRoom}
 use Rattle.agreement.specs.Grades.{gradeZero, gradeOne, gradeTwo, logOf, Placed, Gives}
-use Rattle.agreement.specs.Kept.{Kept, nothing, only, differing, Proposed, keptProposal}
-use Rattle.agreement.specs.Heard.{proposedLog, orLock}
-use Rattle.agreement.specs.Proposals.{fits, choiceOf, chosen, Chooses}
+use Rattle.agreement.specs.Kept.{Kept, nothing, Proposed, keptProposal}
+use Rattle.agreement.specs.Heard.{orLock}
+use Rattle.agreement.specs.Proposals.{choiceOf, chosen, Chooses}
 use Rattle.agreement.specs.declared.Agreement.{Agreement}
 use Rattle.agreement.specs.declared.Proposals.{Proposals}
 use Rattle.agreement.specs.declared.Grade.{Grade}
@@ -26,7 +24,7 @@ use Rattle.agreement.specs.declared.Grade.the-variants.{Longest, Nothing}
 use Rattle.agreement.specs.declared.Choice.{Choice}
 use Rattle.agreement.specs.declared.Choice.the-variants.{Proposal, Lock}
 use Rattle.agreement.proofs.ChoiceLaws.{best-place, choice-fits}
-use Rattle.agreement.proofs.RecordLaws.{choice-voted}
+use Rattle.agreement.proofs.RecordLaws.{choice-voted, fits-log}
 use Rattle.bench.specs.Layout.{logsPlace, proposalsPlace, decidedPlace}
 use Rattle.bench.specs.Calls.{State}
 use Rattle.bench.specs.Record.{agreementOf, proposalsOf}
@@ -67,21 +65,6 @@ place-later v i base e = ap (λ (x : ℕ). x + mostBlocks * i) e
 -- the empty log, for v = 0
 empty-given : (names counts : List ℕ) (base : ℕ) → Gives (some []) names counts base (Longest 0 0)
 empty-given names counts base = record { log = ap some (log-empty names counts (placeOf base 0) 0 (omega arith)); placed = (omega arith, omega arith) }
-
--- a proposal that fits is kept: filed, and not set aside
-fits-log : (names counts : List ℕ) (base : ℕ) (g : Proposals) (a k i : ℕ) → fits names counts base g a k i ≡ true
-    → proposedLog (keptProposal names counts base g i) ≡ filedLog names counts base (g .lengths) i
-unfolding keptProposal
-fits-log names counts base g a k i e =
-    go (member (g .filed) i) (member (g .aside) i) (prefixAt names counts a k (placeOf base i) (getD (g .lengths) i 0)) e
-  where
-    kept : Proposed
-    kept = record { log = filedLog names counts base (g .lengths) i; priority = getD (g .priorities) i 0 }
-
-    go : (f s t : Bool) → (f && (not s && t)) ≡ true → proposedLog (pick s differing (pick f (only kept) nothing)) ≡ kept .log
-    go true true t q = absurd (false≢true q)
-    go true false t q = refl
-    go false s t q = absurd (false≢true q)
 
 module _ (b : Bench) (names counts : List ℕ) (v : ℕ) where
   abbrev s : State

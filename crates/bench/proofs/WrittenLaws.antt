@@ -14,7 +14,7 @@ use Rattle.message.specs.Logs.{Block, Log, namesOf, countsOf}
 use Rattle.message.specs.Message.{Content, Meaning, logMessage, proposalMessage, said, logOf, bytesOf}
 use Rattle.message.specs.Store.{logAt, Writes, roomFor, logFrom, writeLogOf, proposalFrom, writeProposalOf}
 use Rattle.message.proofs.PartLaws.{part-below, one-below, append-below}
-use Rattle.message.proofs.LogLaws.{names-append, counts-append}
+use Rattle.message.proofs.LogLaws.{names-append, counts-append, names-one, counts-one}
 use Rattle.message.proofs.ListedLaws.{length-at, names-at, counts-at}
 use Rattle.message.proofs.WrittenFields.{length-message}
 use Rattle.message.proofs.Inside.{room-yes, written-inside, count-made, same-count, same-holds, same-log, content-made, priority-made}
@@ -23,7 +23,7 @@ use Rattle.bench.specs.Layout.{logsPlace, proposalsPlace}
 use Rattle.bench.specs.Calls.{acted, State}
 use Rattle.bench.specs.Record.{agreementOf, proposalsOf}
 use Rattle.bench.specs.ByRecord.{Outcome, logOutcome, proposalOutcome, fileLog, fileProposal, fileMessage, taken}
-use Rattle.bench.specs.Answers.{stateOf, contentMade, madeReply, Receives, Acts}
+use Rattle.bench.specs.Answers.{stateOf, contentMade, madeReply, ReceiveGives, ActGives}
 use Rattle.bench.specs.Steps.{Making, madeStep}
 use Rattle.bench.specs.declared.Bench.{Bench}
 use Rattle.bench.specs.declared.Received.{Received}
@@ -101,8 +101,8 @@ proposal-reply out m priority k w h e =
 -- ---- written, filed from the buffer and answered
 
 module _ (s : State) (out : List ℕ) (m : Meaning) (w : Makeable out m) (a : Made) (o : List ℕ) (f : Received) (ns cs : List ℕ) where
-  made-acts : o ≡ put out 0 (bytesOf m) → madeReply (put out 0 (bytesOf m)) a ≡ acted (some m) → Receives (taken (fileMessage s o m)) f ns cs
-      → Acts (madeStep s out m) (record { answer = a; bench = f .bench }) ns cs o
+  made-acts : o ≡ put out 0 (bytesOf m) → madeReply (put out 0 (bytesOf m)) a ≡ acted (some m) → ReceiveGives (taken (fileMessage s o m)) f ns cs
+      → ActGives (madeStep s out m) (record { answer = a; bench = f .bench }) ns cs o
   made-acts e q r =
       let x : fileMessage s o m ≡ fileMessage s (bytesOf m) m = ap (λ (l : List ℕ). fileMessage s l m) e ∙ filed-same out m w s in
       record {
@@ -127,8 +127,8 @@ module _ (b : Bench) (names counts out : List ℕ) (v a k : ℕ) (hn : (i : ℕ)
   counts-fit = subst (AllBelow (2 ^ 16)) (sym (counts-at names counts a k)) (part-below (2 ^ 16) counts a k (λ i. hc i .fits))
 
   pub log-acts : Making (stateOf b names counts) out v a k → Writes (writeLogOf out names counts a k (b .own) v) r o
-      → Receives (taken (fileLog (stateOf b names counts) o v (b .own))) f ns cs
-      → Acts (madeStep (stateOf b names counts) out (logFrom names counts a k (b .own) v))
+      → ReceiveGives (taken (fileLog (stateOf b names counts) o v (b .own))) f ns cs
+      → ActGives (madeStep (stateOf b names counts) out (logFrom names counts a k (b .own) v))
       (record { answer = makings.Log k; bench = f .bench }) ns cs o
   unfolding fileMessage
   log-acts p x y =
@@ -142,19 +142,21 @@ module _ (b : Bench) (names counts out : List ℕ) (v a k : ℕ) (hn : (i : ℕ)
   pub proposal-acts : (name count priority : ℕ) → Fits w64 name → Fits w16 count → Fits w64 priority
       → (Making (stateOf b names counts) out v a k) × (k < mostBlocks)
       → Writes (writeProposalOf out names counts a k (record { name = name; count = count }) (b .own) v priority) r o
-      → Receives (taken (fileProposal (stateOf b names counts) o v (b .own) priority)) f ns cs
-      → Acts (madeStep (stateOf b names counts) out (proposalFrom names counts a k (record { name = name; count = count }) (b .own) v priority))
+      → ReceiveGives (taken (fileProposal (stateOf b names counts) o v (b .own) priority)) f ns cs
+      → ActGives (madeStep (stateOf b names counts) out (proposalFrom names counts a k (record { name = name; count = count }) (b .own) v priority))
       (record { answer = makings.Proposal (k + 1); bench = f .bench }) ns cs o
-  unfolding fileMessage namesOf countsOf
+  unfolding fileMessage
   proposal-acts name count priority tn tc tp (p, h) x y =
       let block : Block = record { name = name; count = count } in
       let m : Content = record { sender = b .own; view = v; log = L ++ (block ∷ []) } in
       let l : length (L ++ (block ∷ [])) ≡ k + 1 = length-append L (block ∷ []) ∙ ap (λ (j : ℕ). j + 1) (length-at names counts a k) in
       let w = makeable p (proposalMessage m priority) (omega arith) refl
       (subst (AllBelow (2 ^ 64)) (sym (names-append L (block ∷ [])))
-      (append-below (2 ^ 64) (namesOf L) (name ∷ []) names-fit (one-below (2 ^ 64) name (tn .fits))))
+      (append-below (2 ^ 64) (namesOf L) (namesOf (block ∷ [])) names-fit
+      (subst (AllBelow (2 ^ 64)) (sym (names-one block)) (one-below (2 ^ 64) name (tn .fits)))))
       (subst (AllBelow (2 ^ 16)) (sym (counts-append L (block ∷ [])))
-      (append-below (2 ^ 16) (countsOf L) (count ∷ []) counts-fit (one-below (2 ^ 16) count (tc .fits)))) in
+      (append-below (2 ^ 16) (countsOf L) (countsOf (block ∷ [])) counts-fit
+      (subst (AllBelow (2 ^ 16)) (sym (counts-one block)) (one-below (2 ^ 16) count (tc .fits))))) in
       let e = written-inside (roomFor out names counts a k (k + 1)) out (proposalMessage m priority) r o (made-room p (k + 1) (omega arith)) x .1 in
       made-acts (stateOf b names counts) out (proposalMessage m priority) w (makings.Proposal (k + 1)) o f ns cs e
       (proposal-reply out m priority (k + 1) w (tp .fits) l) y

@@ -50,25 +50,28 @@ madeReply out (makings.Log k) = acted (some (logMessage (contentMade out k)))
 madeReply out (makings.Proposal k) = acted (some (proposalMessage (contentMade out k) (priorityIn out)))
 madeReply out (makings.Refused number) = refused number
 
--- ---- a call answered so, and left record, lists and buffer so. Open and Begin cannot write the lists, which are lent to them for reading alone.
+-- ---- a call answered so, and left record, lists and buffer so
 
-pub record Opens (t : Opening) (r : Started) : Type 0 where
+-- The lists that Open leaves are those handed in.
+pub record OpenGives (t : Opening) (l : Lent) (r : Started) (names counts : List ℕ) : Type 0 where
   pub answered : startReply (r .answer) ≡ t .reply
   pub bench : r .bench ≡ t .bench
+  pub nameList : names ≡ l .names
+  pub countList : counts ≡ l .counts
 
-pub record Begins (t : Step) (r : Started) (names counts : List ℕ) : Type 0 where
+pub record BeginGives (t : Step) (r : Started) (names counts : List ℕ) : Type 0 where
   pub answered : startReply (r .answer) ≡ t .answer .reply
   pub bench : r .bench ≡ t .held .bench
   pub nameList : names ≡ t .held .lent .names
   pub countList : counts ≡ t .held .lent .counts
 
-pub record Receives (t : Step) (r : Received) (names counts : List ℕ) : Type 0 where
+pub record ReceiveGives (t : Step) (r : Received) (names counts : List ℕ) : Type 0 where
   pub answered : takenReply (r .answer) ≡ t .answer .reply
   pub bench : r .bench ≡ t .held .bench
   pub nameList : names ≡ t .held .lent .names
   pub countList : counts ≡ t .held .lent .counts
 
-pub record Acts (t : Step) (r : Acted) (names counts out : List ℕ) : Type 0 where
+pub record ActGives (t : Step) (r : Acted) (names counts out : List ℕ) : Type 0 where
   pub answered : madeReply out (r .answer) ≡ t .answer .reply
   pub bench : r .bench ≡ t .held .bench
   pub nameList : names ≡ t .held .lent .names

@@ -1,5 +1,5 @@
 -- The four calls by the record and the lent lists, for every record and every pair of lists: what the code is proved equal to, and what demand 3 is
--- proved of (document 01, "Four calls", "Calendar of acts", "From the state"). In each, the first failure is given, and a refusal leaves record,
+-- proved of (document 01, "Four calls", "Calendar of acts", "From the input", "From the state"). In each, the first failure is given, and a refusal leaves record,
 -- lists and buffer as they were. Assumes nothing.
 use Prim.Native.Nat.{ℕ, zero, suc, _+_}
 use mathlib.Core.Bool.{true, not}
@@ -116,6 +116,7 @@ fileMessage s bytes (proposalMessage m priority) = fileProposal s bytes (m .view
 
 -- ---- Receive
 
+-- filed: the word is answered
 abbrev pub taken : Outcome → Step
 taken f = record { held = f .held; answer = record { reply = took (f .word); out = [] } }
 
@@ -188,6 +189,7 @@ unfoldable pub snappedTwo : ℕ → State → State
 snappedTwo v s =
     pick (isView v) (record { bench = withAgreement (s .bench) v (withTwo (agreementOf (s .bench) v)); lent = s .lent }) s
 
+-- at the act of its beat
 abbrev pub snapped : ℕ → Act → State → State
 snapped v proposing s = s
 snapped v voting s = s
@@ -210,6 +212,7 @@ actedOf s block priority out v a =
     let made : Option Meaning = makes (s .bench .own) v block priority (seenOf s v) a in
     record { held = withMade (changed s v a) made; answer = record { reply = acted made; out = outAfter made out } }
 
+-- the gathering is over
 abbrev pub over : State → State
 over s = record { bench = withGatheringOver (s .bench); lent = s .lent }
 

@@ -9,6 +9,7 @@ pub mod History
 -- One bench by its record and the lent lists, which is what the code does:
 pub mod Record
 pub mod ByRecord
--- What the code of the calls promises, and what its inner functions ask:
+-- What the code of the calls promises:
 pub mod Answers
+-- What inner functions ask and promise; no reader needs these:
 pub mod Steps

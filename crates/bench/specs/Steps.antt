@@ -20,7 +20,7 @@ use Rattle.bench.specs.declared.Bench.{Bench}
 use Rattle.bench.specs.declared.seeing.Found.{Found}
 use Rattle.bench.specs.declared.seeing.Found.the-variants.{At, Nowhere}
 
--- ---- 9: one place of an agreement's arrays, by what stands there; `above` where its number is n or above
+-- ---- 9 (Record: badSender, badProposer): one place of the arrays, by what stands there; `above` where its number is n or above
 
 abbrev pub badAt : ℕ → Bool → Bool → Bool → Bool → Bool → Bool
 badAt blocks above v e one two =

@@ -2,12 +2,12 @@
 ghost use Rattle.bench.specs.Calendar.{viewOf, placeIn, actAt};
 ghost use Rattle.bench.specs.Record.{beatOf};
 ghost use Rattle.bench.specs.ByRecord.{over, actedOf};
-ghost use Rattle.bench.specs.Answers.{stateOf, Acts};
+ghost use Rattle.bench.specs.Answers.{stateOf, ActGives};
 ghost use Rattle.bench.specs.Steps.{Tested};
 use super::Acted;
 use super::Bench;
 use super::Made;
-use super::deciding::close;
+use super::deciding::decide_and_snap;
 use super::deciding::snap_two;
 use super::making::propose;
 use super::making::vote;
@@ -24,7 +24,7 @@ pub(crate) fn act_at(
     priority: u64,
 ) -> Acted
     requires { ⌜ Tested (stateOf bench (now names) (now counts)) (now out) ⌝ }
-    ensures { λ r. ⌜ Acts (actedOf (over (stateOf bench (now (names .entry)) (now (counts .entry)))) (record { name = name; count = count }) priority (now (out .entry))
+    ensures { λ r. ⌜ ActGives (actedOf (over (stateOf bench (now (names .entry)) (now (counts .entry)))) (record { name = name; count = count }) priority (now (out .entry))
         (viewOf (beatOf bench)) (actAt (placeIn (beatOf bench)))) r (now (names .exit)) (now (counts .exit)) (now (out .exit)) ⌝ }
 {
     let beat = beat_of(bench);
@@ -41,7 +41,7 @@ pub(crate) fn act_at(
     if place == 2 {
         return Acted {
             answer: Made::Nothing,
-            bench: close(b, names, counts, v),
+            bench: decide_and_snap(b, names, counts, v),
         };
     }
     Acted {

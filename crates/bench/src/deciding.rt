@@ -71,7 +71,7 @@ pub(crate) fn snap_two(b: Bench, v: u32) -> Bench
 }
 
 // The deciding act of view v: it decides first, and then takes its snapshot.
-pub(crate) fn close(b: Bench, names: &mut [u64], counts: &mut [u16], v: u32) -> Bench
+pub(crate) fn decide_and_snap(b: Bench, names: &mut [u64], counts: &mut [u16], v: u32) -> Bench
     requires { ⌜ Usable (stateOf b (now names) (now counts)) ⌝ }
     ensures { λ r. ⌜ Leaves (changed (stateOf b (now (names .entry)) (now (counts .entry))) v deciding) r (now (names .exit)) (now (counts .exit)) ⌝ }
 {

@@ -4,7 +4,7 @@ ghost use Rattle.message.specs.Message.{logMessage, proposalMessage, means, con
 ghost use Rattle.agreement.specs.Filing.{wordOf};
 ghost use Rattle.bench.specs.Calls.{took};
 ghost use Rattle.bench.specs.ByRecord.{fileLog, fileProposal, taken, receives};
-ghost use Rattle.bench.specs.Answers.{stateOf, takenReply, Receives};
+ghost use Rattle.bench.specs.Answers.{stateOf, takenReply, ReceiveGives};
 use super::Bench;
 use super::PROPOSALS_PLACE;
 use super::Received;
@@ -40,7 +40,7 @@ pub(crate) fn file_log(
     v: u32,
     sender: u8,
 ) -> Received
-    ensures { λ r. ⌜ Receives (taken (fileLog (stateOf b (now (names .entry)) (now (counts .entry))) (now (bytes .entry)) v sender)) r (now (names .exit)) (now (counts .exit)) ⌝ }
+    ensures { λ r. ⌜ ReceiveGives (taken (fileLog (stateOf b (now (names .entry)) (now (counts .entry))) (now (bytes .entry)) v sender)) r (now (names .exit)) (now (counts .exit)) ⌝ }
 {
     let g = agreement_of(b, v);
     let f = agreement::filing::file(g, names, counts, logs_place(v), bytes, sender);
@@ -62,7 +62,7 @@ pub(crate) fn file_proposal(
     sender: u8,
     priority: u64,
 ) -> Received
-    ensures { λ r. ⌜ Receives (taken (fileProposal (stateOf b (now (names .entry)) (now (counts .entry))) (now (bytes .entry)) v sender priority)) r (now (names .exit)) (now (counts .exit)) ⌝ }
+    ensures { λ r. ⌜ ReceiveGives (taken (fileProposal (stateOf b (now (names .entry)) (now (counts .entry))) (now (bytes .entry)) v sender priority)) r (now (names .exit)) (now (counts .exit)) ⌝ }
 {
     let g = proposals_of(b, v);
     let f = agreement::proposing::file(g, names, counts, PROPOSALS_PLACE, bytes, sender, priority);
@@ -78,7 +78,7 @@ pub(crate) fn file_proposal(
 
 // A LOG of this head: filed where its view is open.
 fn take_log(b: Bench, names: &mut [u64], counts: &mut [u16], bytes: &[u8], head: Head) -> Received
-    ensures { λ r. ⌜ Receives (receives (stateOf b (now (names .entry)) (now (counts .entry))) (now (bytes .entry)) (means (logMessage (contentOf (now (bytes .entry)) head)))) r (now (names .exit)) (now (counts .exit)) ⌝ }
+    ensures { λ r. ⌜ ReceiveGives (receives (stateOf b (now (names .entry)) (now (counts .entry))) (now (bytes .entry)) (means (logMessage (contentOf (now (bytes .entry)) head)))) r (now (names .exit)) (now (counts .exit)) ⌝ }
 {
     if takes_logs(head.view, beat_of(b)) {
         return file_log(b, names, counts, bytes, head.view, head.sender);
@@ -98,7 +98,7 @@ fn take_proposal(
     head: Head,
     priority: u64,
 ) -> Received
-    ensures { λ r. ⌜ Receives (receives (stateOf b (now (names .entry)) (now (counts .entry))) (now (bytes .entry)) (means (proposalMessage (contentOf (now (bytes .entry)) head) priority))) r (now (names .exit)) (now (counts .exit)) ⌝ }
+    ensures { λ r. ⌜ ReceiveGives (receives (stateOf b (now (names .entry)) (now (counts .entry))) (now (bytes .entry)) (means (proposalMessage (contentOf (now (bytes .entry)) head) priority))) r (now (names .exit)) (now (counts .exit)) ⌝ }
 {
     if takes_proposals(head.view, beat_of(b)) {
         return file_proposal(b, names, counts, bytes, head.view, head.sender, priority);
@@ -111,7 +111,7 @@ fn take_proposal(
 
 // A message in a gathering under way. Refused: 1 to 6, 21.
 pub(crate) fn take(b: Bench, names: &mut [u64], counts: &mut [u16], bytes: &[u8]) -> Received
-    ensures { λ r. ⌜ Receives (receives (stateOf b (now (names .entry)) (now (counts .entry))) (now (bytes .entry)) (readOf (b .n) (now (bytes .entry)))) r (now (names .exit)) (now (counts .exit)) ⌝ }
+    ensures { λ r. ⌜ ReceiveGives (receives (stateOf b (now (names .entry)) (now (counts .entry))) (now (bytes .entry)) (readOf (b .n) (now (bytes .entry)))) r (now (names .exit)) (now (counts .exit)) ⌝ }
 {
     let message = message::reader::read(b.n, bytes);
     match message {

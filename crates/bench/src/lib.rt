@@ -11,7 +11,7 @@ mod record;
 mod seeing;
 
 ghost use Rattle.bench.specs.ByRecord.{openOf, beginOf, receiveOf, actOf};
-ghost use Rattle.bench.specs.Answers.{lentAs, stateOf, Opens, Begins, Receives, Acts};
+ghost use Rattle.bench.specs.Answers.{lentAs, stateOf, OpenGives, BeginGives, ReceiveGives, ActGives};
 use acts::act_at;
 use agreement::Agreement;
 use agreement::Proposals;
@@ -21,10 +21,10 @@ use limits::is_beyond;
 use limits::is_out_of_range;
 use limits::is_short;
 use record::fresh;
-use record::is_begun;
 use record::is_idle;
+use record::is_not_above_last;
 
-// The numbers of specs/Layout.antt and specs/Calendar.antt, and the blocks of a log at the most.
+// The numbers of specs/Layout.antt and specs/Calendar.antt, and of a record: a place for each of 32 senders, 64 blocks a log.
 const MOST_SENDERS: usize = 32;
 
 const MOST_BLOCKS: usize = 64;
@@ -101,7 +101,7 @@ pub struct Acted {
 
 // Open: a fresh bench. Refused: 7, 8; the record beside a refusal is of no bench.
 pub fn open(n: u8, own: u8, names: &[u64], counts: &[u16]) -> Started
-    ensures { λ r. ⌜ Opens (openOf n own (lentAs (now (names .entry)) (now (counts .entry)))) r ⌝ }
+    ensures { λ r. ⌜ OpenGives (openOf n own (lentAs (now (names .entry)) (now (counts .entry)))) (lentAs (now (names .entry)) (now (counts .entry))) r (now (names .exit)) (now (counts .exit)) ⌝ }
 {
     if is_out_of_range(n, own) {
         return Started {
@@ -123,7 +123,7 @@ pub fn open(n: u8, own: u8, names: &[u64], counts: &[u16]) -> Started
 
 // Begin: the gathering of a beat starts. Refused: 9, 8, 10, 20.
 pub fn begin(bench: Bench, names: &[u64], counts: &[u16], beat: u32) -> Started
-    ensures { λ r. ⌜ Begins (beginOf (stateOf bench (now (names .entry)) (now (counts .entry))) beat) r (now (names .entry)) (now (counts .entry)) ⌝ }
+    ensures { λ r. ⌜ BeginGives (beginOf (stateOf bench (now (names .entry)) (now (counts .entry))) beat) r (now (names .exit)) (now (counts .exit)) ⌝ }
 {
     if is_beyond(bench) {
         return Started {
@@ -143,7 +143,7 @@ pub fn begin(bench: Bench, names: &[u64], counts: &[u16], beat: u32) -> Started
             bench,
         };
     }
-    if is_begun(bench, beat) {
+    if is_not_above_last(bench, beat) {
         return Started {
             answer: Start::Refused(20),
             bench,
@@ -157,7 +157,7 @@ pub fn begin(bench: Bench, names: &[u64], counts: &[u16], beat: u32) -> Started
 
 // Receive: a message is filed. Refused: 9, 8, 22, 1 to 6, 21.
 pub fn receive(bench: Bench, names: &mut [u64], counts: &mut [u16], message: &[u8]) -> Received
-    ensures { λ r. ⌜ Receives (receiveOf (stateOf bench (now (names .entry)) (now (counts .entry))) (now (message .entry))) r (now (names .exit)) (now (counts .exit)) ⌝ }
+    ensures { λ r. ⌜ ReceiveGives (receiveOf (stateOf bench (now (names .entry)) (now (counts .entry))) (now (message .entry))) r (now (names .exit)) (now (counts .exit)) ⌝ }
 {
     if is_beyond(bench) {
         return Received {
@@ -191,7 +191,7 @@ pub fn act(
     count: u16,
     priority: u64,
 ) -> Acted
-    ensures { λ r. ⌜ Acts (actOf (stateOf bench (now (names .entry)) (now (counts .entry))) (record { name = name; count = count }) priority (now (out .entry))) r (now (names .exit)) (now (counts .exit)) (now (out .exit)) ⌝ }
+    ensures { λ r. ⌜ ActGives (actOf (stateOf bench (now (names .entry)) (now (counts .entry))) (record { name = name; count = count }) priority (now (out .entry))) r (now (names .exit)) (now (counts .exit)) (now (out .exit)) ⌝ }
 {
     if is_beyond(bench) {
         return Acted {

@@ -28,7 +28,7 @@ pub(crate) fn is_short(names: &[u64], counts: &[u16]) -> bool
     (names.len() < LEAST_LENT) | (counts.len() < LEAST_LENT)
 }
 
-// What is filed of one sender breaks a limit; `above` where its number is n or above.
+// What stands at one place of an agreement's arrays breaks a limit; `above` where its number is n or above.
 fn is_bad_at(blocks: u8, above: bool, v: bool, e: bool, one: bool, two: bool) -> bool
     ensures { λ r. ⌜ r ≡ badAt blocks above v e one two ⌝ }
 {
@@ -71,7 +71,7 @@ fn is_beyond_agreement(g: Agreement, n: u8) -> bool
     (LAST_VIEW < g.view) | has_bad_sender(g, n)
 }
 
-// The same of one sender's proposals.
+// The same of the proposals' arrays.
 fn is_bad_proposal_at(blocks: u8, above: bool, filed: bool, aside: bool) -> bool
     ensures { λ r. ⌜ r ≡ badProposalAt blocks above filed aside ⌝ }
 {

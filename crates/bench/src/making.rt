@@ -4,7 +4,7 @@ ghost use Rattle.message.specs.Limits.{mostBlocks};
 ghost use Rattle.message.specs.Store.{logFrom, proposalFrom};
 ghost use Rattle.bench.specs.Calendar.{proposing, voting};
 ghost use Rattle.bench.specs.ByRecord.{actedOf};
-ghost use Rattle.bench.specs.Answers.{stateOf, Acts};
+ghost use Rattle.bench.specs.Answers.{stateOf, ActGives};
 ghost use Rattle.bench.specs.Steps.{Tested, Making, madeStep, noBlock};
 use super::Acted;
 use super::Bench;
@@ -32,7 +32,7 @@ fn make_log(
     blocks: u8,
 ) -> Acted
     requires { ⌜ Making (stateOf b (now names) (now counts)) (now out) v at blocks ⌝ }
-    ensures { λ r. ⌜ Acts (madeStep (stateOf b (now (names .entry)) (now (counts .entry))) (now (out .entry))
+    ensures { λ r. ⌜ ActGives (madeStep (stateOf b (now (names .entry)) (now (counts .entry))) (now (out .entry))
         (logFrom (now (names .entry)) (now (counts .entry)) at blocks (b .own) v)) r (now (names .exit)) (now (counts .exit)) (now (out .exit)) ⌝ }
 {
     let own = b.own;
@@ -59,7 +59,7 @@ fn make_proposal(
     priority: u64,
 ) -> Acted
     requires { ⌜ (Making (stateOf b (now names) (now counts)) (now out) v at blocks) × (blocks < mostBlocks) ⌝ }
-    ensures { λ r. ⌜ Acts (madeStep (stateOf b (now (names .entry)) (now (counts .entry))) (now (out .entry))
+    ensures { λ r. ⌜ ActGives (madeStep (stateOf b (now (names .entry)) (now (counts .entry))) (now (out .entry))
         (proposalFrom (now (names .entry)) (now (counts .entry)) at blocks (record { name = name; count = count }) (b .own) v priority)) r (now (names .exit)) (now (counts .exit)) (now (out .exit)) ⌝ }
 {
     let own = b.own;
@@ -95,7 +95,7 @@ pub(crate) fn propose(
     priority: u64,
 ) -> Acted
     requires { ⌜ Tested (stateOf b (now names) (now counts)) (now out) ⌝ }
-    ensures { λ r. ⌜ Acts (actedOf (stateOf b (now (names .entry)) (now (counts .entry))) (record { name = name; count = count }) priority (now (out .entry)) v proposing) r (now (names .exit)) (now (counts .exit)) (now (out .exit)) ⌝ }
+    ensures { λ r. ⌜ ActGives (actedOf (stateOf b (now (names .entry)) (now (counts .entry))) (record { name = name; count = count }) priority (now (out .entry)) v proposing) r (now (names .exit)) (now (counts .exit)) (now (out .exit)) ⌝ }
 {
     let nothing = Acted {
         answer: Made::Nothing,
@@ -117,7 +117,7 @@ pub(crate) fn propose(
 // The voting act of view v: for the best proposal that has the lock as a prefix, else the lock.
 pub(crate) fn vote(b: Bench, names: &mut [u64], counts: &mut [u16], out: &mut [u8], v: u32) -> Acted
     requires { ⌜ Tested (stateOf b (now names) (now counts)) (now out) ⌝ }
-    ensures { λ r. ⌜ Acts (actedOf (stateOf b (now (names .entry)) (now (counts .entry))) noBlock 0 (now (out .entry)) v voting) r (now (names .exit)) (now (counts .exit)) (now (out .exit)) ⌝ }
+    ensures { λ r. ⌜ ActGives (actedOf (stateOf b (now (names .entry)) (now (counts .entry))) noBlock 0 (now (out .entry)) v voting) r (now (names .exit)) (now (counts .exit)) (now (out .exit)) ⌝ }
 {
     let nothing = Acted {
         answer: Made::Nothing,

@@ -42,7 +42,7 @@ pub(crate) fn beat_of(b: Bench) -> u32
 }
 
 // A beat that is not above the last begun.
-pub(crate) fn is_begun(b: Bench, beat: u32) -> bool
+pub(crate) fn is_not_above_last(b: Bench, beat: u32) -> bool
     ensures { λ r. ⌜ r ≡ notAboveLast b beat ⌝ }
 {
     beat < b.next

@@ -208,3 +208,11 @@ pub counts-append : (L M : Log) → countsOf (L ++ M) ≡ countsOf L ++ countsOf
 unfolding countsOf
 counts-append [] M = refl
 counts-append (b ∷ L) M = ap (λ (l : List ℕ). b .count ∷ l) (counts-append L M)
+
+pub names-one : (x : Block) → namesOf (x ∷ []) ≡ x .name ∷ []
+unfolding namesOf
+names-one x = refl
+
+pub counts-one : (x : Block) → countsOf (x ∷ []) ≡ x .count ∷ []
+unfolding countsOf
+counts-one x = refl

@@ -18,3 +18,12 @@ module _ (z r t u : Bool) (e : z ≡ t && u) (f : r ≡ t) where
 
   pub and-off : r ≡ false → false ≡ z
   and-off g = sym (e ∙ rw (← f, g))
+
+-- a test that holds, or never does, beside another
+pub or-true : (t : Bool) → (t || true) ≡ true
+or-true true = refl
+or-true false = refl
+
+pub or-no : (t : Bool) → (t || false) ≡ t
+or-no true = refl
+or-no false = refl

@@ -8,6 +8,7 @@ use mathlib.Core.Option.{Option, some, none, Option·none-ne-some, Option·some-
 use mathlib.Core.Bool.{Bool, true, false, _||_, false≢true}
 use lib.Dec.{eqb}
 use borrow.Author.Tests.{eqb-true, eqb-false, eq-eqb}
+use Rattle.message.proofs.TestLaws.{or-true}
 use Rattle.message.specs.Choice.{pick}
 use Rattle.message.specs.Message.{Content}
 use Rattle.bench.specs.Calls.{Call, begin, receive, act}
@@ -77,10 +78,6 @@ actedAt-mem (d ∷ ds) b e = go (eqb (d .beat) b) refl e (actedAt-mem ds b)
         → (x : ActRecord) × Mem x (d ∷ ds) × (x .beat ≡ b)
     go true q f below = (d, List·Memᴰ·head refl, eqb-true (d .beat) b q)
     go false q f below = let x = below f in (x .0, List·Memᴰ·tail (x .1), x .2)
-
-or-true : (a : Bool) → (a || true) ≡ true
-or-true true = refl
-or-true false = refl
 
 mem-actedAt : (ds : List ActRecord) (d : ActRecord) (b : ℕ) → Mem d ds → d .beat ≡ b → actedAt ds b ≡ true
 unfolding actedAt

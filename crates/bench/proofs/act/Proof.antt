@@ -3,10 +3,6 @@ use Rattle.bench.proofs.ActCases.{act-by-9, act-by-8, act-by-11, act-by
 use borrow.Author.Needs.{needs}
 use Rattle.bench.proofs.act.Statement.{statement}
 use Rattle.bench.proofs.act.Tie as tie
-use Rattle.bench.proofs.acts.act_at.Reads as act-at-reads
-use Rattle.bench.proofs.limits.is_beyond.Reads as is-beyond-reads
-use Rattle.bench.proofs.limits.is_short.Reads as is-short-reads
-use Rattle.bench.proofs.record.is_idle.Reads as is-idle-reads
 
 is-beyond-requires : tie.Need-is-beyond-requires
 is-beyond-requires c κs = search needs

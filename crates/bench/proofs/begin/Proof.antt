@@ -2,10 +2,6 @@ use Rattle.bench.proofs.CallCases.{begin-by-9, begin-by-8, begin-by-10,
 use borrow.Author.Needs.{needs}
 use Rattle.bench.proofs.begin.Statement.{statement}
 use Rattle.bench.proofs.begin.Tie as tie
-use Rattle.bench.proofs.beginning.begun.Reads as begun-reads
-use Rattle.bench.proofs.limits.is_beyond.Reads as is-beyond-reads
-use Rattle.bench.proofs.limits.is_short.Reads as is-short-reads
-use Rattle.bench.proofs.record.is_begun.Reads as is-begun-reads
 
 is-beyond-requires : tie.Need-is-beyond-requires
 is-beyond-requires c κs = search needs
@@ -22,8 +18,8 @@ returns-2 c = search begin-by-8
 returns-3 : tie.Need-returns-3
 returns-3 c = search begin-by-10
 
-is-begun-requires : tie.Need-is-begun-requires
-is-begun-requires c κs = search needs
+is-not-above-last-requires : tie.Need-is-not-above-last-requires
+is-not-above-last-requires c κs = search needs
 
 returns-4 : tie.Need-returns-4
 returns-4 c = search begin-by-20
@@ -43,7 +39,7 @@ begin-spec =
     is-short-requires
     returns-2
     returns-3
-    is-begun-requires
+    is-not-above-last-requires
     returns-4
     begun-requires
     returns-5)

@@ -2,10 +2,6 @@ use Rattle.bench.proofs.CallCases.{receive-by-9, receive-by-8, receive-
 use borrow.Author.Needs.{needs}
 use Rattle.bench.proofs.receive.Statement.{statement}
 use Rattle.bench.proofs.receive.Tie as tie
-use Rattle.bench.proofs.filing.take.Reads as take-reads
-use Rattle.bench.proofs.limits.is_beyond.Reads as is-beyond-reads
-use Rattle.bench.proofs.limits.is_short.Reads as is-short-reads
-use Rattle.bench.proofs.record.is_idle.Reads as is-idle-reads
 
 is-beyond-requires : tie.Need-is-beyond-requires
 is-beyond-requires c κs = search needs

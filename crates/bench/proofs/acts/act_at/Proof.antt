@@ -3,11 +3,6 @@ use Rattle.bench.proofs.ActCases.{proposed, voted, decided, snapped-two
 use borrow.Author.Needs.{needs}
 use Rattle.bench.proofs.acts.act_at.Statement.{statement}
 use Rattle.bench.proofs.acts.act_at.Tie as tie
-use Rattle.bench.proofs.deciding.close.Reads as close-reads
-use Rattle.bench.proofs.deciding.snap_two.Reads as snap-two-reads
-use Rattle.bench.proofs.making.propose.Reads as propose-reads
-use Rattle.bench.proofs.making.vote.Reads as vote-reads
-use Rattle.bench.proofs.record.beat_of.Reads as beat-of-reads
 
 beat-of-requires : tie.Need-beat-of-requires
 beat-of-requires c κs = search needs
@@ -42,8 +37,8 @@ same-length-6 c = search needs
 returns-2 : tie.Need-returns-2
 returns-2 c = search voted
 
-close-requires : tie.Need-close-requires
-close-requires c κs = search usable-over
+decide-and-snap-requires : tie.Need-decide-and-snap-requires
+decide-and-snap-requires c κs = search usable-over
 
 same-length-7 : tie.Need-same-length-7
 same-length-7 c = search needs
@@ -75,7 +70,7 @@ act-at-spec =
     same-length-5
     same-length-6
     returns-2
-    close-requires
+    decide-and-snap-requires
     same-length-7
     same-length-8
     returns-3

@@ -1,8 +1,6 @@
 use borrow.Author.Needs.{needs}
 use Rattle.bench.proofs.beginning.begun.Statement.{statement}
 use Rattle.bench.proofs.beginning.begun.Tie as tie
-use Rattle.bench.proofs.beginning.kept_agreement.Reads as kept-agreement-reads
-use Rattle.bench.proofs.beginning.kept_proposals.Reads as kept-proposals-reads
 
 kept-agreement-requires : tie.Need-kept-agreement-requires
 kept-agreement-requires c κs = search needs

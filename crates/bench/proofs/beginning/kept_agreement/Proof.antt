@@ -2,8 +2,6 @@ use Rattle.bench.proofs.RecordCases.{forgets, keeps}
 use borrow.Author.Needs.{needs}
 use Rattle.bench.proofs.beginning.kept_agreement.Statement.{statement}
 use Rattle.bench.proofs.beginning.kept_agreement.Tie as tie
-use Rattle.agreement.proofs.empty.Reads as empty-reads
-use Rattle.bench.proofs.calendar.are_logs_shut.Reads as are-logs-shut-reads
 
 are-logs-shut-requires : tie.Need-are-logs-shut-requires
 are-logs-shut-requires c κs = search needs

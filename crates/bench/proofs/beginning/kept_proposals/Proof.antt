@@ -2,8 +2,6 @@ use Rattle.bench.proofs.RecordCases.{forgets-proposals, keeps-proposals
 use borrow.Author.Needs.{needs}
 use Rattle.bench.proofs.beginning.kept_proposals.Statement.{statement}
 use Rattle.bench.proofs.beginning.kept_proposals.Tie as tie
-use Rattle.agreement.proofs.proposing.empty.Reads as empty-reads
-use Rattle.bench.proofs.calendar.are_proposals_shut.Reads as are-proposals-shut-reads
 
 are-proposals-shut-requires : tie.Need-are-proposals-shut-requires
 are-proposals-shut-requires c κs = search needs

@@ -2,9 +2,6 @@ use Rattle.bench.proofs.DecidingLaws.{decision-before, decide-none, dec
 use borrow.Author.Needs.{needs}
 use Rattle.bench.proofs.deciding.decide.Statement.{statement}
 use Rattle.bench.proofs.deciding.decide.Tie as tie
-use Rattle.bench.proofs.deciding.settle.Reads as settle-reads
-use Rattle.bench.proofs.seeing.decision.Reads as decision-reads
-use Rattle.bench.proofs.seeing.place_before.Reads as place-before-reads
 
 decision-requires : tie.Need-decision-requires
 decision-requires c κs = search needs

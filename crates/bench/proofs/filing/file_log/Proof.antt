@@ -2,11 +2,6 @@ use Rattle.bench.proofs.CallCases.{filed-log}
 use borrow.Author.Needs.{needs}
 use Rattle.bench.proofs.filing.file_log.Statement.{statement}
 use Rattle.bench.proofs.filing.file_log.Tie as tie
-use Rattle.agreement.proofs.filing.file.Reads as file-reads
-use Rattle.bench.proofs.filing.word.Reads as word-reads
-use Rattle.bench.proofs.record.agreement_of.Reads as agreement-of-reads
-use Rattle.bench.proofs.record.logs_place.Reads as logs-place-reads
-use Rattle.bench.proofs.record.with_agreement.Reads as with-agreement-reads
 
 agreement-of-requires : tie.Need-agreement-of-requires
 agreement-of-requires c κs = search needs

@@ -2,9 +2,6 @@ use Rattle.bench.proofs.CallCases.{filed-proposal}
 use borrow.Author.Needs.{needs}
 use Rattle.bench.proofs.filing.file_proposal.Statement.{statement}
 use Rattle.bench.proofs.filing.file_proposal.Tie as tie
-use Rattle.agreement.proofs.proposing.file.Reads as file-reads
-use Rattle.bench.proofs.filing.word.Reads as word-reads
-use Rattle.bench.proofs.record.proposals_of.Reads as proposals-of-reads
 
 proposals-of-requires : tie.Need-proposals-of-requires
 proposals-of-requires c κs = search needs

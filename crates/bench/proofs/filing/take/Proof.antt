@@ -2,9 +2,6 @@ use Rattle.bench.proofs.CallCases.{read-refused, read-log, read-proposa
 use borrow.Author.Needs.{needs}
 use Rattle.bench.proofs.filing.take.Statement.{statement}
 use Rattle.bench.proofs.filing.take.Tie as tie
-use Rattle.bench.proofs.filing.take_log.Reads as take-log-reads
-use Rattle.bench.proofs.filing.take_proposal.Reads as take-proposal-reads
-use Rattle.message.proofs.reader.read.Reads as read-reads
 
 read-requires : tie.Need-read-requires
 read-requires c κs = search needs

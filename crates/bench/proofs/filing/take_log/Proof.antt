@@ -2,9 +2,6 @@ use Rattle.bench.proofs.CallCases.{log-taken, log-shut}
 use borrow.Author.Needs.{needs}
 use Rattle.bench.proofs.filing.take_log.Statement.{statement}
 use Rattle.bench.proofs.filing.take_log.Tie as tie
-use Rattle.bench.proofs.calendar.takes_logs.Reads as takes-logs-reads
-use Rattle.bench.proofs.filing.file_log.Reads as file-log-reads
-use Rattle.bench.proofs.record.beat_of.Reads as beat-of-reads
 
 beat-of-requires : tie.Need-beat-of-requires
 beat-of-requires c κs = search needs

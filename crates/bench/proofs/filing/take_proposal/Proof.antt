@@ -2,9 +2,6 @@ use Rattle.bench.proofs.CallCases.{proposal-taken, proposal-shut}
 use borrow.Author.Needs.{needs}
 use Rattle.bench.proofs.filing.take_proposal.Statement.{statement}
 use Rattle.bench.proofs.filing.take_proposal.Tie as tie
-use Rattle.bench.proofs.calendar.takes_proposals.Reads as takes-proposals-reads
-use Rattle.bench.proofs.filing.file_proposal.Reads as file-proposal-reads
-use Rattle.bench.proofs.record.beat_of.Reads as beat-of-reads
 
 beat-of-requires : tie.Need-beat-of-requires
 beat-of-requires c κs = search needs

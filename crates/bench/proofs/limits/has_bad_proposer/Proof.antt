@@ -9,7 +9,6 @@ use Rattle.bench.specs.Steps.{badProposalAt}
 use borrow.Author.Needs.{needs}
 use Rattle.bench.proofs.limits.has_bad_proposer.Statement.{statement}
 use Rattle.bench.proofs.limits.has_bad_proposer.Tie as tie
-use Rattle.bench.proofs.limits.is_bad_proposal_at.Reads as is-bad-proposal-at-reads
 
 abbrev Inv-loop : tie.InvT-loop
 Inv-loop n lengths filed aside limit bad₀ i₀ bad i = (i ≤ mostSenders) × (bad ≡ anyBelow i (λ j. badProposalAt (getD lengths j 0) (leb limit j) (member filed j) (member aside j)))

@@ -9,7 +9,6 @@ use Rattle.bench.specs.Steps.{badAt}
 use borrow.Author.Needs.{needs}
 use Rattle.bench.proofs.limits.has_bad_sender.Statement.{statement}
 use Rattle.bench.proofs.limits.has_bad_sender.Tie as tie
-use Rattle.bench.proofs.limits.is_bad_at.Reads as is-bad-at-reads
 
 abbrev Inv-loop : tie.InvT-loop
 Inv-loop n lengths voters equivocators one two limit bad₀ i₀ bad i = (i ≤ mostSenders) × (bad ≡ anyBelow i (λ j. badAt (getD lengths j 0) (leb limit j) (member voters j) (member equivocators j) (member one j) (member two j)))

@@ -2,9 +2,6 @@ use Rattle.bench.specs.Record.{beyond}
 use borrow.Author.Needs.{needs}
 use Rattle.bench.proofs.limits.is_beyond.Statement.{statement}
 use Rattle.bench.proofs.limits.is_beyond.Tie as tie
-use Rattle.bench.proofs.limits.is_beyond_agreement.Reads as is-beyond-agreement-reads
-use Rattle.bench.proofs.limits.is_beyond_proposals.Reads as is-beyond-proposals-reads
-use Rattle.bench.proofs.limits.is_out_of_range.Reads as is-out-of-range-reads
 
 is-out-of-range-requires : tie.Need-is-out-of-range-requires
 is-out-of-range-requires c κs = search needs

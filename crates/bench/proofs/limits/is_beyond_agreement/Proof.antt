@@ -2,7 +2,6 @@ use Rattle.bench.specs.Record.{beyondAgreement}
 use borrow.Author.Needs.{needs}
 use Rattle.bench.proofs.limits.is_beyond_agreement.Statement.{statement}
 use Rattle.bench.proofs.limits.is_beyond_agreement.Tie as tie
-use Rattle.bench.proofs.limits.has_bad_sender.Reads as has-bad-sender-reads
 
 has-bad-sender-requires : tie.Need-has-bad-sender-requires
 has-bad-sender-requires c κs = search needs

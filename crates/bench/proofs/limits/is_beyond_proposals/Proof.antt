@@ -2,7 +2,6 @@ use Rattle.bench.specs.Record.{beyondProposals}
 use borrow.Author.Needs.{needs}
 use Rattle.bench.proofs.limits.is_beyond_proposals.Statement.{statement}
 use Rattle.bench.proofs.limits.is_beyond_proposals.Tie as tie
-use Rattle.bench.proofs.limits.has_bad_proposer.Reads as has-bad-proposer-reads
 
 has-bad-proposer-requires : tie.Need-has-bad-proposer-requires
 has-bad-proposer-requires c κs = search needs

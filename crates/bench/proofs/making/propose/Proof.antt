@@ -2,9 +2,6 @@ use Rattle.bench.proofs.MakingLaws.{propose-late, propose-making, propo
 use borrow.Author.Needs.{needs}
 use Rattle.bench.proofs.making.propose.Statement.{statement}
 use Rattle.bench.proofs.making.propose.Tie as tie
-use Rattle.bench.proofs.making.make_proposal.Reads as make-proposal-reads
-use Rattle.bench.proofs.seeing.candidate.Reads as candidate-reads
-use Rattle.bench.proofs.seeing.place_before.Reads as place-before-reads
 
 returns : tie.Need-returns
 returns c = search propose-late
@@ -45,8 +42,11 @@ place-before-requires c κs = search needs
 make-proposal-requires : tie.Need-make-proposal-requires
 make-proposal-requires c κs =
     let found = c .before .before .before .before .before .before .before .before in
-    let start = found .before .before .before .before .before .before .before in
-    (propose-making _ _ _ _ _ (start .args .name) (found .before .before .before .if1 .left) _ (found .candidate .ensures) _ _ _ (c .before .before .before .before .before .before .i .given .1) (c .before .before .before .place-before .ensures) (start .pre), search needs)
+    let start = found .before .before .before .before .before .before .before in (
+      propose-making _ _ _ _ _ (start .args .name) (found .before .before .before .if1 .left) _ (found .candidate .ensures) _ _ _
+          (c .before .before .before .before .before .before .i .given .1) (c .before .before .before .place-before .ensures) (start .pre),
+      search needs,
+    )
 
 same-length-5 : tie.Need-same-length-5
 same-length-5 c = search needs

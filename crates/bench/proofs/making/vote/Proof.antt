@@ -25,7 +25,10 @@ returns-2 : tie.Need-returns-2
 returns-2 c = search vote-nowhere
 
 make-log-requires : tie.Need-make-log-requires
-make-log-requires c κs = vote-making _ _ _ _ _ _ (c .before .before .before .before .before .before .before .before .before .if1 .left) (c .before .before .before .before .before .before .ballot .ensures) _ _ (c .before .before .before .before .at .given .1) (c .before .before .before .before .before .before .before .before .before .before .before .before .before .pre)
+make-log-requires c κs =
+    let found = c .before .before .before .before .before .before in
+    let start = found .before .before .before .before .before .before .before in
+    vote-making _ _ _ _ _ _ (found .before .before .before .if1 .left) (found .ballot .ensures) _ _ (c .before .before .before .before .at .given .1) (start .pre)
 
 same-length-3 : tie.Need-same-length-3
 same-length-3 c = search needs

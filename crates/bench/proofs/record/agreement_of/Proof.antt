@@ -2,8 +2,6 @@ use Rattle.bench.proofs.RecordCases.{of-even, of-odd}
 use borrow.Author.Needs.{needs}
 use Rattle.bench.proofs.record.agreement_of.Statement.{statement}
 use Rattle.bench.proofs.record.agreement_of.Tie as tie
-use Rattle.bench.proofs.record.is_even.Reads as is-even-reads
-use Rattle.bench.proofs.record.of_view.Reads as of-view-reads
 
 is-even-requires : tie.Need-is-even-requires
 is-even-requires c κs = search needs

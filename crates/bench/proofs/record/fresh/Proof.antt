@@ -1,8 +1,6 @@
 use borrow.Author.Needs.{needs}
 use Rattle.bench.proofs.record.fresh.Statement.{statement}
 use Rattle.bench.proofs.record.fresh.Tie as tie
-use Rattle.agreement.proofs.empty.Reads as empty-reads
-use Rattle.agreement.proofs.proposing.empty.Reads as proposing-empty-reads
 
 empty-requires : tie.Need-empty-requires
 empty-requires c κs = search needs

@@ -2,7 +2,6 @@ use Rattle.bench.proofs.RecordCases.{place-even, place-odd}
 use borrow.Author.Needs.{needs}
 use Rattle.bench.proofs.record.logs_place.Statement.{statement}
 use Rattle.bench.proofs.record.logs_place.Tie as tie
-use Rattle.bench.proofs.record.is_even.Reads as is-even-reads
 
 is-even-requires : tie.Need-is-even-requires
 is-even-requires c κs = search needs

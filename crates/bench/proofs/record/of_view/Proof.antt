@@ -2,7 +2,6 @@ use Rattle.bench.proofs.RecordCases.{view-is, view-is-not}
 use borrow.Author.Needs.{needs}
 use Rattle.bench.proofs.record.of_view.Statement.{statement}
 use Rattle.bench.proofs.record.of_view.Tie as tie
-use Rattle.agreement.proofs.empty.Reads as empty-reads
 
 returns : tie.Need-returns
 returns c = search view-is

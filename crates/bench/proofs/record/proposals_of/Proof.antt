@@ -2,7 +2,6 @@ use Rattle.bench.proofs.RecordCases.{proposals-are, proposals-are-not}
 use borrow.Author.Needs.{needs}
 use Rattle.bench.proofs.record.proposals_of.Statement.{statement}
 use Rattle.bench.proofs.record.proposals_of.Tie as tie
-use Rattle.agreement.proofs.proposing.empty.Reads as empty-reads
 
 returns : tie.Need-returns
 returns c = search proposals-are

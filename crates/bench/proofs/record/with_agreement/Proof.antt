@@ -2,7 +2,6 @@ use Rattle.bench.proofs.RecordCases.{with-even, with-odd}
 use borrow.Author.Needs.{needs}
 use Rattle.bench.proofs.record.with_agreement.Statement.{statement}
 use Rattle.bench.proofs.record.with_agreement.Tie as tie
-use Rattle.bench.proofs.record.is_even.Reads as is-even-reads
 
 is-even-requires : tie.Need-is-even-requires
 is-even-requires c κs = search needs

@@ -3,10 +3,6 @@ use Rattle.bench.proofs.SeeingLaws.{ballot-none, ballot-lock, ballot-pr
 use borrow.Author.Needs.{needs}
 use Rattle.bench.proofs.seeing.ballot.Statement.{statement}
 use Rattle.bench.proofs.seeing.ballot.Tie as tie
-use Rattle.agreement.proofs.proposing.choose.Reads as choose-reads
-use Rattle.bench.proofs.record.proposals_of.Reads as proposals-of-reads
-use Rattle.bench.proofs.seeing.lock.Reads as lock-reads
-use Rattle.bench.proofs.seeing.place_before.Reads as place-before-reads
 
 lock-requires : tie.Need-lock-requires
 lock-requires c κs = search needs

@@ -2,9 +2,6 @@ use Rattle.bench.proofs.SeeingLaws.{candidate-first, candidate-later}
 use borrow.Author.Needs.{needs}
 use Rattle.bench.proofs.seeing.candidate.Statement.{statement}
 use Rattle.bench.proofs.seeing.candidate.Tie as tie
-use Rattle.agreement.proofs.grading.zero.Reads as zero-reads
-use Rattle.bench.proofs.record.agreement_of.Reads as agreement-of-reads
-use Rattle.bench.proofs.record.logs_place.Reads as logs-place-reads
 
 returns : tie.Need-returns
 returns c = search candidate-first

@@ -2,9 +2,6 @@ use Rattle.bench.proofs.SeeingLaws.{decision-first, decision-later}
 use borrow.Author.Needs.{needs}
 use Rattle.bench.proofs.seeing.decision.Statement.{statement}
 use Rattle.bench.proofs.seeing.decision.Tie as tie
-use Rattle.agreement.proofs.grading.two.Reads as two-reads
-use Rattle.bench.proofs.record.agreement_of.Reads as agreement-of-reads
-use Rattle.bench.proofs.record.logs_place.Reads as logs-place-reads
 
 returns : tie.Need-returns
 returns c = search decision-first

@@ -2,9 +2,6 @@ use Rattle.bench.proofs.SeeingLaws.{lock-first, lock-later}
 use borrow.Author.Needs.{needs}
 use Rattle.bench.proofs.seeing.lock.Statement.{statement}
 use Rattle.bench.proofs.seeing.lock.Tie as tie
-use Rattle.agreement.proofs.grading.one.Reads as one-reads
-use Rattle.bench.proofs.record.agreement_of.Reads as agreement-of-reads
-use Rattle.bench.proofs.record.logs_place.Reads as logs-place-reads
 
 returns : tie.Need-returns
 returns c = search lock-first

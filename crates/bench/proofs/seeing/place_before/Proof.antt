@@ -2,7 +2,6 @@ use Rattle.bench.proofs.SeeingLaws.{place-first, place-later}
 use borrow.Author.Needs.{needs}
 use Rattle.bench.proofs.seeing.place_before.Statement.{statement}
 use Rattle.bench.proofs.seeing.place_before.Tie as tie
-use Rattle.bench.proofs.record.logs_place.Reads as logs-place-reads
 
 mul-result : tie.Need-mul-result
 mul-result c = search needs

@@ -1,7 +1,7 @@
 use Rattle.bench.proofs.DecidingLaws.{close-leaves}
 use borrow.Author.Needs.{needs}
-use Rattle.bench.proofs.deciding.close.Statement.{statement}
-use Rattle.bench.proofs.deciding.close.Tie as tie
+use Rattle.bench.proofs.deciding.decide_and_snap.Statement.{statement}
+use Rattle.bench.proofs.deciding.decide_and_snap.Tie as tie
 
 decide-requires : tie.Need-decide-requires
 decide-requires c κs = search needs
@@ -18,6 +18,6 @@ same-length-2 c = search needs
 returns : tie.Need-returns
 returns c = search close-leaves
 
-pub close-spec : {M : Type 1} → statement M
-close-spec =
+pub decide-and-snap-spec : {M : Type 1} → statement M
+decide-and-snap-spec =
     tie.close (tie.spec decide-requires snap-one-requires same-length same-length-2 returns)
