@@ -1,6 +1,6 @@
 -- The four calls by the record and the lent lists, for every record and every pair of lists: what the code is proved equal to, and what demand 3 is
--- proved of (document 01, "Four calls", "Calendar of acts", "From the input", "From the state"). In each, the first failure is given, and a refusal leaves record,
--- lists and buffer as they were. Assumes nothing.
+-- proved of (document 01, "Four calls", "Calendar of acts", "From the input", "From the state"). In each, the first failure is given, and a refusal
+-- leaves record, lists and buffer as they were. Assumes nothing.
 use Prim.Native.Nat.{ℕ, zero, suc, _+_}
 use mathlib.Core.Bool.{true, not}
 use mathlib.Core.List.{List, []}

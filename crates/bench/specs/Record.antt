@@ -1,5 +1,5 @@
--- The bench's record: the agreement of a view in it, its beat, its changes, and its limits (document 01, "Four calls" and refusals 9, 20 and 22). All for
--- every record, odd ones too. Assumes nothing.
+-- The bench's record: the agreement of a view in it, its beat, its changes, and its limits (document 01, "Four calls" and refusals 9, 20 and 22).
+-- All for every record, odd ones too. Assumes nothing.
 use Prim.Native.Nat.{ℕ, _+_, _-_}
 use mathlib.Core.Bool.{Bool, true, false, not, _&&_, _||_}
 use mathlib.Core.List.{List}
