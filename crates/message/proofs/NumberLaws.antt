@@ -1,12 +1,15 @@
 -- Laws of little-endian numbers in bytes, each once, over the width and the place. Assumes nothing.
-use Prim.Native.Nat.{ℕ, zero, suc, _+_, _*_, _/_, _%_, _^_, _<_}
+use Prim.Native.Nat.{ℕ, zero, suc, _+_, _*_, _/_, _%_, _^_, _≤_, _<_}
 use native.Mathlib.Omega.{arith}
 use native.Mathlib.Nat.{pow-suc, mul-suc, mul-zero, div-lt-iff-lt-mul, zero-lt-suc}
 use mathlib.Core.Path.{_≡_, refl, sym, ap, _∙_}
+use mathlib.Core.Bool.{Bool, true, false}
 use mathlib.Core.List.{List, [], _∷_, _++_, append-assoc}
+use borrow.Author.Tests.{le-leb, leb-true}
+use lib.Dec.{leb}
 use lib.ListN.{length, getD, drop, length-append}
 use lib.Seq.{drop-at}
-use Rattle.message.specs.Numbers.{AllBelow, part, numberAt, numbersAt, bytesFor, bytesForEach}
+use Rattle.message.specs.Numbers.{AllBelow, part, numberAt, numberIn, numbersAt, bytesFor, bytesForEach}
 use Rattle.message.proofs.PartLaws.{part-append, part-ext, part-at, part-drop, append-below}
 
 -- ---- lengths
@@ -150,3 +153,22 @@ unfolding numbersAt
 numbers-below w l a zero h i = let b = number-below w l a h in omega arith
 numbers-below w l a (suc k) h zero = number-below w l a h
 numbers-below w l a (suc k) h (suc i) = numbers-below w l (a + w) k h i
+
+-- ---- at any place
+
+module _ (w : ℕ) (s : List ℕ) (a : ℕ) where
+  pub number-inside : a + w ≤ length s → numberIn w s a ≡ numberAt w s a
+  unfolding numberIn
+  number-inside h = simp le-leb
+
+  module _ (v : Bool) (e : v ≡ leb (a + w) (length s)) where
+    pub number-asks : v ≡ true → a + w ≤ length s
+    number-asks t = leb-true (a + w) (length s) (sym e ∙ t)
+
+    pub number-found : (r : ℕ) → v ≡ true → r ≡ numberAt w s a → r ≡ numberIn w s a
+    unfolding numberIn
+    number-found r t q = q ∙ rw (← e, t)
+
+    pub number-missing : v ≡ false → 0 ≡ numberIn w s a
+    unfolding numberIn
+    number-missing t = rw (← e, t)

@@ -1,7 +1,9 @@
 -- Numbers in lists, and little-endian numbers in bytes (document 01, "The message"). Assumes nothing.
 use Prim.Native.Nat.{ℕ, zero, suc, _+_, _*_, _/_, _%_, _<_}
 use mathlib.Core.List.{List, [], _∷_, _++_}
-use lib.ListN.{getD, set}
+use lib.Dec.{leb}
+use lib.ListN.{length, getD, set}
+use Rattle.message.specs.Choice.{pick}
 
 -- ---- parts of a list
 
@@ -25,6 +27,10 @@ AllBelow B l = (i : ℕ) → getD l i 0 < B
 unfoldable pub numberAt : ℕ → List ℕ → ℕ → ℕ
 numberAt zero s a = 0
 numberAt (suc w) s a = getD s a 0 + 256 * numberAt w s (a + 1)
+
+-- that number where its bytes all lie in s, else zero: what a layer above may ask for at any place
+unfoldable pub numberIn : ℕ → List ℕ → ℕ → ℕ
+numberIn w s a = pick (leb (a + w) (length s)) (numberAt w s a) 0
 
 -- the k numbers of w bytes each from place a on
 unfoldable pub numbersAt : ℕ → List ℕ → ℕ → ℕ → List ℕ

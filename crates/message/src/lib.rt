@@ -1,6 +1,6 @@
 // Messages and logs: the lowest layer. A message is read from bytes, written into the outgoing buffer, and its log filed in
 // the two lent lists (block names and entry counts), where logs are compared and copied.
-mod number;
+pub mod number;
 pub mod reader;
 pub mod store;
 pub mod writer;

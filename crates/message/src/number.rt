@@ -3,7 +3,7 @@ ghost use mathlib.Core.Path.{_≡_};
 ghost use Prim.Native.Nat.{_+_, _≤_, _<_};
 ghost use lib.ListN.{length};
 ghost use lib.Dec.{leb};
-ghost use Rattle.message.specs.Numbers.{numberAt, put, bytesFor};
+ghost use Rattle.message.specs.Numbers.{numberAt, numberIn, put, bytesFor};
 
 pub(crate) fn wide(x: u8) -> u64
     ensures { λ r. ⌜ (r ≡ x) × (r < 256) ⌝ }
@@ -43,6 +43,34 @@ pub(crate) fn fits(a: usize, k: usize, len: usize) -> bool
         return false;
     }
     a <= len - k
+}
+
+// The numbers of two, four and eight bytes at any place, for the layers above: zero where the bytes do not all lie in the slice.
+pub fn u16_in(s: &[u8], at: usize) -> u16
+    ensures { λ r. ⌜ r ≡ numberIn 2 (now (s .entry)) at ⌝ }
+{
+    if fits(at, 2, s.len()) {
+        return u16_at(s, at);
+    }
+    0
+}
+
+pub fn u32_in(s: &[u8], at: usize) -> u32
+    ensures { λ r. ⌜ r ≡ numberIn 4 (now (s .entry)) at ⌝ }
+{
+    if fits(at, 4, s.len()) {
+        return u32_at(s, at);
+    }
+    0
+}
+
+pub fn u64_in(s: &[u8], at: usize) -> u64
+    ensures { λ r. ⌜ r ≡ numberIn 8 (now (s .entry)) at ⌝ }
+{
+    if fits(at, 8, s.len()) {
+        return u64_at(s, at);
+    }
+    0
 }
 
 // x in w bytes from place at on, lowest byte first.
