@@ -29,3 +29,8 @@ pub mod Witness
 pub mod Idle
 pub mod ShutOut
 pub mod Readable
+-- The roll's text:
+pub mod RollForm
+pub mod TextLaws
+pub mod LineLaws
+pub mod EventLaws

@@ -1,5 +1,11 @@
--- What a reader of this crate must believe: the statement of demand 3.
+-- What a reader of this crate must believe: the statement of demand 3,
 pub mod Places
 pub mod Premises
 pub mod Demand
 pub mod TheBench
+-- and the text of a roll.
+pub mod Texts
+pub mod Roll
+pub mod RollText
+-- What its inner functions ask and give, which no reader needs:
+pub mod RollSteps

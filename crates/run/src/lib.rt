@@ -1,1 +1,50 @@
-// Many benches: demand 3, its statement in specs/ and its proof in proofs/. The code of this layer, the roll's text, is still to come.
+// Many benches: demand 3, its statement in specs/ and its proof in proofs/; and the text of a roll, a list of calls at one bench
+// as bytes (specs/Roll.antt, specs/RollText.antt).
+mod events;
+mod form;
+mod lines;
+mod texts;
+
+ghost use Rattle.run.specs.RollText.{WritesText};
+use bench::Bench;
+use events::print_roll;
+use form::is_misshapen;
+use texts::put_word;
+
+// The numbers of specs/Roll.antt and of the bench's layout.
+const MOST_ROLL: usize = 65536;
+
+const MOST_EVENTS: usize = 1024;
+
+const SIZES_LENGTH: usize = 4;
+
+const MARK_LENGTH: usize = 4;
+
+const BEGIN_KIND: u8 = 1;
+
+const RECEIVE_KIND: u8 = 2;
+
+const ACT_KIND: u8 = 3;
+
+// The bench after an event, and where the text goes on.
+pub struct Printed {
+    pub bench: Bench,
+    pub at: usize,
+}
+
+// The text of a roll, at the front of the lent buffer, and how many bytes it has. A buffer shorter than the longest roll is left as
+// it was, and the answer is 0.
+#[no_mangle]
+pub extern "C" fn cervakho_roll_text(roll: &[u8], text: &mut [u8]) -> usize
+    ensures { λ r. ⌜ WritesText (now (roll .entry)) (now (text .entry)) r (now (text .exit)) ⌝ }
+{
+    if text.len() < MOST_ROLL {
+        return 0;
+    }
+    if is_misshapen(roll) {
+        return put_word(text, 0, b"roll ?\n");
+    }
+    let mut names = [0; 6208];
+    let mut counts = [0; 6208];
+    print_roll(roll, &mut names, &mut counts, text)
+}

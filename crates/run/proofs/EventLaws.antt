@@ -1,0 +1,204 @@
+-- A call made and its line written; the events one after the other; the whole text. Assumes nothing.
+use Prim.Native.Nat.{ℕ, zero, suc, _+_, _-_, _*_, _≤_, _<_}
+use native.Mathlib.Omega.{arith}
+use mathlib.Core.Bool.{Bool, true, false}
+use mathlib.Core.List.{List, [], _∷_, _++_, append-assoc}
+use mathlib.Core.Path.{_≡_, refl, sym, ap, _∙_}
+use borrow.Author.Tests.{eq-eqb, ne-eqb, lt-ltb, le-ltb}
+use lib.Dec.{eqb, ltb}
+use lib.ListN.{length, getD, take, drop, length-append}
+use Rattle.message.specs.Numbers.{put, numberIn}
+use Rattle.message.specs.Logs.{Block}
+use Rattle.message.proofs.PartLaws.{put-append}
+use Rattle.message.proofs.Acceptance.{length-blocks}
+use Rattle.bench.specs.Layout.{Lent}
+use Rattle.bench.specs.Calls.{Call, begin, receive, act, Reply, refused, done, State, Opening, Step}
+use Rattle.bench.specs.ByRecord.{openOf, beginOf, receiveOf, actOf}
+use Rattle.bench.specs.Answers.{lentAs, stateOf, startReply, takenReply, madeReply, OpenGives, BeginGives, ReceiveGives, ActGives}
+use Rattle.bench.specs.declared.Bench.{Bench}
+use Rattle.bench.specs.declared.Start.{Start}
+use Rattle.bench.specs.declared.Start.the-variants as starts
+use Rattle.bench.specs.declared.Taken.{Taken}
+use Rattle.bench.specs.declared.Taken.the-variants as takings
+use Rattle.bench.specs.declared.Made.{Made}
+use Rattle.bench.specs.declared.Made.the-variants as makings
+use Rattle.bench.specs.declared.Started.{Started}
+use Rattle.bench.specs.declared.Received.{Received}
+use Rattle.bench.specs.declared.Acted.{Acted}
+use Rattle.run.specs.declared.Printed.{Printed}
+use Rattle.run.specs.Texts.{ascii, decimal}
+use Rattle.run.specs.Roll.{mostRoll, misshapen, eventsOf, benchesOf, ownOf, kindAt, lengthAt, bodiesPlace, beginKind, receiveKind, offeredAt, freshBuffer, callAt, callsFrom, callsOf}
+use Rattle.run.specs.RollText.{wordText, madeText, markText, replyText, lineOf, stepOf, linesOf, noRollText, firstLine, openedText, freshLists, textOf, WritesText}
+use Rattle.run.specs.RollSteps.{lineRoom, endText, startText, takenText, standText, actedText, Puts, Remains, Prints}
+use Rattle.run.proofs.TextLaws.{puts-then}
+
+-- ---- the line of a call, by the code's answer
+
+start-line : (a : Start) (t : Step) (beat : ℕ) → startReply a ≡ t .answer .reply → ascii "begin " ++ (decimal beat ++ startText a) ≡ lineOf (begin beat) t
+unfolding lineOf replyText startText startReply endText
+start-line starts.Done t beat e = rw (← e) (sym (append-assoc (ascii "begin ") (decimal beat) (ascii " ok\n")))
+start-line (starts.Refused k) t beat e = rw (← e) (sym (append-assoc (ascii "begin ") (decimal beat) (endText (decimal k))))
+
+taken-line : (a : Taken) (t : Step) (bytes : List ℕ) → takenReply a ≡ t .answer .reply → takenText a ≡ lineOf (receive bytes) t
+unfolding lineOf replyText takenText takenReply endText
+taken-line takings.First t bytes e = rw (← e)
+taken-line takings.Second t bytes e = rw (← e)
+taken-line takings.Known t bytes e = rw (← e)
+taken-line (takings.Refused k) t bytes e = rw (← e)
+
+stand-end : (xs : List ℕ) (d : ℕ) (parted : Bool) → xs ++ standText d parted ≡ (xs ++ (ascii " " ++ (decimal d ++ markText parted))) ++ ascii "\n"
+unfolding standText
+stand-end xs d parted = simp append-assoc
+
+acted-line : (a : Made) (t : Step) (block : Block) (priority : ℕ) (buffer out : List ℕ) → madeReply out a ≡ t .answer .reply
+    → actedText a (t .held .bench .decided) (t .held .bench .parted) ≡ lineOf (act block priority buffer) t
+unfolding lineOf replyText actedText madeReply madeText endText
+acted-line makings.Nothing t block priority buffer out e =
+    rw (← e) (ap (λ (l : List ℕ). ascii "act " ++ l) (stand-end (ascii "none 0") (t .held .bench .decided) (t .held .bench .parted)))
+acted-line (makings.Log k) t block priority buffer out e =
+    rw (← e, length-blocks out k)
+    (ap (λ (l : List ℕ). ascii "act log " ++ l) (stand-end (decimal k) (t .held .bench .decided) (t .held .bench .parted)))
+acted-line (makings.Proposal k) t block priority buffer out e =
+    rw (← e, length-blocks out k)
+    (ap (λ (l : List ℕ). ascii "act proposal " ++ l) (stand-end (decimal k) (t .held .bench .decided) (t .held .bench .parted)))
+acted-line (makings.Refused k) t block priority buffer out e = rw (← e)
+
+-- ---- a call made, and its line written
+
+module _ (t : Step) (ns cs : List ℕ) (at : ℕ) (l : List ℕ) (p : ℕ) (m : List ℕ) (short : p ≤ at + lineRoom) where
+  pub begin-prints : (r : Started) (beat : ℕ) → BeginGives t r ns cs → Puts (ascii "begin " ++ (decimal beat ++ startText (r .answer))) at l p m
+      → Prints (begin beat) t at l (record { bench = r .bench; at = p }) ns cs m
+  begin-prints r beat g f = record {
+    bench = g .bench;
+    nameList = g .nameList;
+    countList = g .countList;
+    line = rw (← start-line (r .answer) t beat (g .answered)) f;
+    short = short;
+  }
+
+  pub receive-prints : (r : Received) (bytes : List ℕ) → ReceiveGives t r ns cs → Puts (takenText (r .answer)) at l p m
+      → Prints (receive bytes) t at l (record { bench = r .bench; at = p }) ns cs m
+  receive-prints r bytes g f = record {
+    bench = g .bench;
+    nameList = g .nameList;
+    countList = g .countList;
+    line = rw (← taken-line (r .answer) t bytes (g .answered)) f;
+    short = short;
+  }
+
+  pub act-prints : (r : Acted) (block : Block) (priority : ℕ) (buffer out : List ℕ) → ActGives t r ns cs out
+      → Puts (actedText (r .answer) (r .bench .decided) (r .bench .parted)) at l p m
+      → Prints (act block priority buffer) t at l (record { bench = r .bench; at = p }) ns cs m
+  act-prints r block priority buffer out g f = record {
+    bench = g .bench;
+    nameList = g .nameList;
+    countList = g .countList;
+    line = rw (← acted-line (r .answer) t block priority buffer out (g .answered)) (rw (g .bench) at f);
+    short = short;
+  }
+
+-- ---- event i, by its kind
+
+module _ (s : List ℕ) (i a : ℕ) (x : State) (at : ℕ) (l : List ℕ) (r : Printed) (ns cs m : List ℕ) where
+  pub event-begin : (beat : ℕ) → kindAt s i ≡ beginKind → beat ≡ numberIn 4 s a → Prints (begin beat) (beginOf x beat) at l r ns cs m
+      → Prints (callAt s i a) (stepOf x (callAt s i a)) at l r ns cs m
+  unfolding callAt
+  event-begin beat k e f = rw (eq-eqb (kindAt s i) beginKind k, ← e) f
+
+  pub event-receive : (k end : ℕ) → (kindAt s i ≡ beginKind → ⊥) → kindAt s i ≡ receiveKind → k ≡ lengthAt s i → end ≡ a + k
+      → Prints (receive (take (end - a) (drop a s))) (receiveOf x (take (end - a) (drop a s))) at l r ns cs m
+      → Prints (callAt s i a) (stepOf x (callAt s i a)) at l r ns cs m
+  unfolding callAt
+  event-receive k end u v e q f =
+      let n : end - a ≡ lengthAt s i = omega arith in
+      rw (ne-eqb (kindAt s i) beginKind u, eq-eqb (kindAt s i) receiveKind v) (rw n at f)
+
+  pub event-act : (name count priority : ℕ) → (kindAt s i ≡ beginKind → ⊥) → (kindAt s i ≡ receiveKind → ⊥) → name ≡ numberIn 8 s a
+      → priority ≡ numberIn 8 s (a + 8) → count ≡ numberIn 2 s (a + 16)
+      → Prints (act (record { name = name; count = count }) priority freshBuffer) (actOf x (record { name = name; count = count }) priority freshBuffer) at l r ns cs m
+      → Prints (callAt s i a) (stepOf x (callAt s i a)) at l r ns cs m
+  unfolding callAt
+  event-act name count priority u v e q w f =
+      rw (ne-eqb (kindAt s i) beginKind u, ne-eqb (kindAt s i) receiveKind v, ← e, ← q, ← w) f
+
+-- ---- the events, one after the other
+
+module _ (s : List ℕ) (x : State) (at : ℕ) (l : List ℕ) where
+  pub lines-start : (e : ℕ) → e ≡ eventsOf s
+      → Remains (put l at (linesOf x (callsOf s))) (at + length (linesOf x (callsOf s))) l at (linesOf x (callsFrom s 0 (4 + 4 * e) (e - 0)))
+  lines-start e q = let n : e - 0 ≡ e = omega arith in rw (n, q) (record { place = refl; whole = refl })
+
+  pub lines-end : (p : ℕ) (m : List ℕ) (y : State) (i a e : ℕ)
+      → Remains (put l at (linesOf x (callsOf s))) (at + length (linesOf x (callsOf s))) m p (linesOf y (callsFrom s i a (e - i))) → e ≤ i
+      → Puts (linesOf x (callsOf s)) at l p m
+  unfolding linesOf callsFrom put
+  lines-end p m y i a e f h = let n : e - i ≡ 0 = omega arith in let g = rw n at f in record { place = omega (arith, g .place); text = sym (g .whole) }
+
+calls-step : (s : List ℕ) (i a m : ℕ) → 0 < m → callsFrom s i a m ≡ callAt s i a ∷ callsFrom s (i + 1) (a + lengthAt s i) (m - 1)
+unfolding callsFrom
+calls-step s i a m h = let e : m ≡ suc (m - 1) = omega arith in ap (callsFrom s i a) e
+
+lines-step : (x : State) (c : Call) (cs : List Call) → linesOf x (c ∷ cs) ≡ lineOf c (stepOf x c) ++ linesOf (stepOf x c .held) cs
+unfolding linesOf
+lines-step x c cs = refl
+
+remains-next : (z : List ℕ) (r : ℕ) (l : List ℕ) (p : ℕ) (xs ys : List ℕ) (q : ℕ) (m : List ℕ) → Remains z r l p (xs ++ ys) → Puts xs p l q m → Remains z r m q ys
+remains-next z r l p xs ys q m f g = record {
+  place = f .place ∙ (rw length-append (omega (arith, g .place)));
+  whole = f .whole ∙ put-append l p xs ys ∙ rw (g .text, g .place);
+}
+
+state-is : (b : Bench) (ns cs : List ℕ) (y : State) → b ≡ y .bench → ns ≡ y .lent .names → cs ≡ y .lent .counts → stateOf b ns cs ≡ y
+state-is b ns cs y e f g = rw (e, f, g)
+
+module _ (z : List ℕ) (end : ℕ) (l : List ℕ) (p : ℕ) (s : List ℕ) (i a e : ℕ) (b : Bench) (ns cs : List ℕ) where
+  pub lines-next : (r : Printed) (ns′ cs′ m : List ℕ) (k : ℕ) → Remains z end l p (linesOf (stateOf b ns cs) (callsFrom s i a (e - i))) → i < e
+      → Prints (callAt s i a) (stepOf (stateOf b ns cs) (callAt s i a)) p l r ns′ cs′ m → k ≡ lengthAt s i
+      → Remains z end m (r .at) (linesOf (stateOf (r .bench) ns′ cs′) (callsFrom s (i + 1) (a + k) (e - (i + 1))))
+  lines-next r ns′ cs′ m k f h g q =
+      let n : e - i - 1 ≡ e - (i + 1) = omega arith in
+      let c = callAt s i a in
+      let rest = callsFrom s (i + 1) (a + lengthAt s i) (e - (i + 1)) in
+      let t = stepOf (stateOf b ns cs) c in
+      let u : linesOf (stateOf b ns cs) (callsFrom s i a (e - i)) ≡ lineOf c t ++ linesOf (t .held) rest = rw (calls-step s i a (e - i) (omega arith), n) (lines-step (stateOf b ns cs) c rest) in
+      let v = remains-next z end l p (lineOf c t) (linesOf (t .held) rest) (r .at) m (rw u at f) (g .line) in
+      let held = state-is (r .bench) ns′ cs′ (t .held) (g .bench) (g .nameList) (g .countList) in
+      rw (q, held) v
+
+-- ---- the whole text
+
+-- Open gave o, and answered a
+module _ (s : List ℕ) (l : Lent) (o : Opening) (r : Started) (ns cs : List ℕ) (g : OpenGives o l r ns cs) (at : ℕ) (before : List ℕ) (q : ℕ) (after : List ℕ) where
+  pub roll-refused : (k : ℕ) → r .answer ≡ starts.Refused k → Puts (ascii "roll ?\n") at before q after → Puts (openedText s l o) at before q after
+  unfolding openedText startReply
+  roll-refused k e f = let d : refused k ≡ o .reply = rw e at (g .answered) in rw (← d) f
+
+  pub roll-opened : (own n p : ℕ) (m : List ℕ) → r .answer ≡ starts.Done → own ≡ ownOf s → n ≡ benchesOf s → Puts (firstLine own n) at before p m
+      → Puts (linesOf (stateOf (r .bench) (l .names) (l .counts)) (callsOf s)) p m q after → Puts (openedText s l o) at before q after
+  unfolding openedText startReply
+  roll-opened own n p m did e f h k =
+      let d : done ≡ o .reply = rw did at (g .answered) in
+      rw (← d)
+      (puts-then (firstLine (ownOf s) (benchesOf s)) (linesOf (record { bench = o .bench; lent = l }) (callsOf s)) at before p m q after (rw (e, f) at h) (rw (g .bench) at k))
+
+-- into the lent buffer
+module _ (s before : List ℕ) where
+  pub text-scant : length before < mostRoll → WritesText s before 0 before
+  text-scant h = record { answered = rw (lt-ltb (length before) mostRoll h); fits = omega arith; buffer = rw (lt-ltb (length before) mostRoll h) }
+
+  module _ (room : mostRoll ≤ length before) (v : Bool) (t : v ≡ misshapen s) (q : ℕ) (after : List ℕ) where
+    text-is : Puts (textOf s) 0 before q after → q ≤ mostRoll → WritesText s before q after
+    text-is f k = record {
+      answered = rw (le-ltb (length before) mostRoll room) (f .place ∙ omega arith);
+      fits = omega arith;
+      buffer = rw (le-ltb (length before) mostRoll room) (f .text);
+    }
+
+    pub text-none : v ≡ true → Puts noRollText 0 before q after → WritesText s before q after
+    unfolding textOf
+    text-none e f = text-is (rw (← t, e) f) (omega (arith, f .place))
+
+    pub text-whole : v ≡ false → Puts (openedText s freshLists (openOf (benchesOf s) (ownOf s) freshLists)) 0 before q after → q ≤ mostRoll
+        → WritesText s before q after
+    unfolding textOf
+    text-whole e f k = text-is (rw (← t, e) f) k

@@ -1,0 +1,60 @@
+use Rattle.run.proofs.EventLaws.{text-scant, text-none, text-whole}
+use Rattle.run.proofs.RollForm.{shaped}
+use native.Mathlib.Omega.{arith}
+use borrow.Author.Needs.{needs}
+use Rattle.run.proofs.cervakho_roll_text.Statement.{statement}
+use Rattle.run.proofs.cervakho_roll_text.Tie as tie
+use Rattle.run.proofs.cervakho_roll_text.Reads as reads
+use Rattle.run.proofs.cervakho_roll_text.Lts as lts
+use Rattle.run.proofs.events.print_roll.Reads as print-roll-reads
+use Rattle.run.proofs.form.is_misshapen.Reads as is-misshapen-reads
+use Rattle.run.proofs.texts.put_word.Reads as put-word-reads
+
+returns : tie.Need-returns
+returns c = search text-scant
+
+is-misshapen-requires : tie.Need-is-misshapen-requires
+is-misshapen-requires c κs = search needs
+
+slice-aggregate-put-word : tie.Need-slice-aggregate-put-word
+slice-aggregate-put-word c = search needs
+
+put-word-requires : tie.Need-put-word-requires
+put-word-requires c κs = search needs
+
+same-length : tie.Need-same-length
+same-length c = search needs
+
+returns-2 : tie.Need-returns-2
+returns-2 c = search text-none
+
+slice-aggregate-print-roll : tie.Need-slice-aggregate-print-roll
+slice-aggregate-print-roll c = search needs
+
+slice-aggregate-print-roll-2 : tie.Need-slice-aggregate-print-roll-2
+slice-aggregate-print-roll-2 c = search needs
+
+print-roll-requires : tie.Need-print-roll-requires
+print-roll-requires c κs = (search needs, search shaped)
+
+same-length-2 : tie.Need-same-length-2
+same-length-2 c = search needs
+
+returns-3 : tie.Need-returns-3
+returns-3 c = search text-whole
+
+pub cervakho-roll-text-spec : {M : Type 1} → statement M
+cervakho-roll-text-spec =
+    tie.close
+    (tie.spec
+    returns
+    is-misshapen-requires
+    slice-aggregate-put-word
+    put-word-requires
+    same-length
+    returns-2
+    slice-aggregate-print-roll
+    slice-aggregate-print-roll-2
+    print-roll-requires
+    same-length-2
+    returns-3)

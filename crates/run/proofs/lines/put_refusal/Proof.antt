@@ -1,0 +1,44 @@
+use Rattle.run.proofs.TextLaws.{puts-three}
+use native.Mathlib.Omega.{arith}
+use Rattle.run.specs.RollSteps.{endText}
+use borrow.Author.Needs.{needs}
+use Rattle.run.proofs.lines.put_refusal.Statement.{statement}
+use Rattle.run.proofs.lines.put_refusal.Tie as tie
+use Rattle.run.proofs.lines.put_refusal.Reads as reads
+use Rattle.run.proofs.lines.put_refusal.Lts as lts
+use Rattle.run.proofs.texts.put_decimal.Reads as put-decimal-reads
+use Rattle.run.proofs.texts.put_word.Reads as put-word-reads
+
+slice-aggregate-put-word : tie.Need-slice-aggregate-put-word
+slice-aggregate-put-word c = search needs
+
+put-word-requires : tie.Need-put-word-requires
+put-word-requires c κs = search needs
+
+put-decimal-requires : tie.Need-put-decimal-requires
+put-decimal-requires c κs = search needs
+
+slice-aggregate-put-word-2 : tie.Need-slice-aggregate-put-word-2
+slice-aggregate-put-word-2 c = search needs
+
+put-word-requires-2 : tie.Need-put-word-requires-2
+put-word-requires-2 c κs = search needs
+
+same-length : tie.Need-same-length
+same-length c = search needs
+
+returns : tie.Need-returns
+unfolding endText
+returns c = (search puts-three, omega arith)
+
+pub put-refusal-spec : {M : Type 1} → statement M
+put-refusal-spec =
+    tie.close
+    (tie.spec
+    slice-aggregate-put-word
+    put-word-requires
+    put-decimal-requires
+    slice-aggregate-put-word-2
+    put-word-requires-2
+    same-length
+    returns)

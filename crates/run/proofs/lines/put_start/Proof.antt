@@ -1,0 +1,50 @@
+use Rattle.run.proofs.LineLaws.{start-done, start-refused}
+use native.Mathlib.Omega.{arith}
+use borrow.Author.Needs.{needs}
+use Rattle.run.proofs.lines.put_start.Statement.{statement}
+use Rattle.run.proofs.lines.put_start.Tie as tie
+use Rattle.run.proofs.lines.put_start.Reads as reads
+use Rattle.run.proofs.lines.put_start.Lts as lts
+use Rattle.run.proofs.lines.put_refusal.Reads as put-refusal-reads
+use Rattle.run.proofs.texts.put_word.Reads as put-word-reads
+
+enum-told : tie.Need-enum-told
+enum-told c = search needs
+
+slice-aggregate-put-word : tie.Need-slice-aggregate-put-word
+slice-aggregate-put-word c = search needs
+
+put-word-requires : tie.Need-put-word-requires
+put-word-requires c κs = search needs
+
+enum-known-answer : tie.Need-enum-known-answer
+enum-known-answer c = search needs
+
+put-refusal-requires : tie.Need-put-refusal-requires
+put-refusal-requires c κs = search needs
+
+same-length : tie.Need-same-length
+same-length c = search needs
+
+returns : tie.Need-returns
+returns c = (search start-done, omega arith)
+
+same-length-2 : tie.Need-same-length-2
+same-length-2 c = search needs
+
+returns-2 : tie.Need-returns-2
+returns-2 c = (search start-refused, omega arith)
+
+pub put-start-spec : {M : Type 1} → statement M
+put-start-spec =
+    tie.close
+    (tie.spec
+    enum-told
+    slice-aggregate-put-word
+    put-word-requires
+    enum-known-answer
+    put-refusal-requires
+    same-length
+    returns
+    same-length-2
+    returns-2)

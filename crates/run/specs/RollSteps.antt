@@ -1,0 +1,88 @@
+-- What the inner functions of the roll's text ask and give: no reader needs it to believe the text. Assumes nothing.
+use Prim.Native.Nat.{ℕ, _+_, _≤_, _<_}
+use mathlib.Core.Bool.{Bool, false}
+use mathlib.Core.List.{List, _++_}
+use mathlib.Core.Path.{_≡_}
+use lib.ListN.{length}
+use Rattle.message.specs.Numbers.{put}
+use Rattle.bench.specs.Calls.{Call, Step}
+use Rattle.bench.specs.declared.Start.{Start}
+use Rattle.bench.specs.declared.Start.the-variants as starts
+use Rattle.bench.specs.declared.Taken.{Taken}
+use Rattle.bench.specs.declared.Taken.the-variants as takings
+use Rattle.bench.specs.declared.Made.{Made}
+use Rattle.bench.specs.declared.Made.the-variants as makings
+use Rattle.run.specs.declared.Printed.{Printed}
+use Rattle.run.specs.Texts.{ascii, decimal}
+use Rattle.run.specs.Roll.{mostRoll, mostEvents, sizesLength, eventsOf, markPlace, lengthAt, bodiesPlace, misfits}
+use Rattle.run.specs.RollText.{markText, lineOf}
+
+-- the bytes that a line is given room for
+abbrev pub lineRoom : ℕ
+lineRoom = 48
+
+-- ---- lines by the code's answers
+
+-- the end of a line that says xs
+unfoldable pub endText : List ℕ → List ℕ
+endText xs = ascii " " ++ (xs ++ ascii "\n")
+
+unfoldable pub startText : Start → List ℕ
+startText starts.Done = ascii " ok\n"
+startText (starts.Refused number) = endText (decimal number)
+
+unfoldable pub takenText : Taken → List ℕ
+takenText takings.First = ascii "take first\n"
+takenText takings.Second = ascii "take second\n"
+takenText takings.Known = ascii "take known\n"
+takenText (takings.Refused number) = ascii "take" ++ endText (decimal number)
+
+-- D and the mark
+unfoldable pub standText : ℕ → Bool → List ℕ
+standText d parted = ascii " " ++ (decimal d ++ (markText parted ++ ascii "\n"))
+
+unfoldable pub actedText : Made → ℕ → Bool → List ℕ
+actedText makings.Nothing d parted = ascii "act none 0" ++ standText d parted
+actedText (makings.Log k) d parted = ascii "act log " ++ (decimal k ++ standText d parted)
+actedText (makings.Proposal k) d parted = ascii "act proposal " ++ (decimal k ++ standText d parted)
+actedText (makings.Refused number) d parted = ascii "act" ++ endText (decimal number)
+
+-- ---- what is written
+
+-- xs was written at a place of the text, which goes on at r
+pub record Puts (xs : List ℕ) (at : ℕ) (before : List ℕ) (r : ℕ) (after : List ℕ) : Type 0 where
+  pub place : r ≡ at + length xs
+  pub text : after ≡ put before at xs
+
+-- what is still to be written, xs at place p, makes the whole text z, which ends at r
+pub record Remains (z : List ℕ) (r : ℕ) (text : List ℕ) (p : ℕ) (xs : List ℕ) : Type 0 where
+  pub place : r ≡ p + length xs
+  pub whole : z ≡ put text p xs
+
+-- the call was made, and its line written at a place of the text
+pub record Prints (c : Call) (t : Step) (at : ℕ) (before : List ℕ) (r : Printed) (names counts after : List ℕ) : Type 0 where
+  pub bench : r .bench ≡ t .held .bench
+  pub nameList : names ≡ t .held .lent .names
+  pub countList : counts ≡ t .held .lent .counts
+  pub line : Puts (lineOf c t) at before (r .at) after
+  pub short : r .at ≤ at + lineRoom
+
+-- ---- what is asked
+
+-- the mark of event i lies in the roll
+abbrev pub Marked : List ℕ → ℕ → Type 0
+Marked s i = markPlace (i + 1) ≤ length s
+
+-- a roll of the right form
+pub record Shaped (s : List ℕ) : Type 0 where
+  pub long : sizesLength ≤ length s
+  pub short : length s ≤ mostRoll
+  pub few : eventsOf s ≤ mostEvents
+  pub fit : misfits s 0 (bodiesPlace s) (eventsOf s) ≡ false
+
+-- the mark of event i and its body, from place a on, lie in the roll
+pub record Placed (s : List ℕ) (i a : ℕ) : Type 0 where
+  pub short : length s ≤ mostRoll
+  pub few : i < mostEvents
+  pub mark : Marked s i
+  pub body : a + lengthAt s i ≤ length s

@@ -1,0 +1,149 @@
+// The lines of a roll's text.
+ghost use Prim.Native.Nat.{_+_, _≤_};
+ghost use mathlib.Core.List.{_++_};
+ghost use lib.ListN.{length};
+ghost use Rattle.run.specs.Texts.{ascii, decimal};
+ghost use Rattle.run.specs.RollText.{firstLine, markText};
+ghost use Rattle.run.specs.RollSteps.{lineRoom, endText, startText, takenText, standText, actedText, Puts};
+use super::texts::put_decimal;
+use super::texts::put_word;
+use bench::Made;
+use bench::Start;
+use bench::Taken;
+
+pub(crate) fn put_first_line(text: &mut [u8], own: u8, n: u8) -> usize
+    requires { ⌜ lineRoom ≤ length (now text) ⌝ }
+    ensures { λ r. ⌜ Puts (firstLine own n) 0 (now (text .entry)) r (now (text .exit)) ⌝ }
+    ensures { λ r. ⌜ r ≤ lineRoom ⌝ }
+{
+    let p = put_word(text, 0, b"bench ");
+    let q = put_decimal(text, p, own as u32);
+    let r = put_word(text, q, b" of ");
+    let s = put_decimal(text, r, n as u32);
+    put_word(text, s, b"\n")
+}
+
+// The end of a line that says a refusal's number.
+fn put_refusal(text: &mut [u8], at: usize, number: u8) -> usize
+    requires { ⌜ at + 12 ≤ length (now text) ⌝ }
+    ensures { λ r. ⌜ Puts (endText (decimal number)) at (now (text .entry)) r (now (text .exit)) ⌝ }
+    ensures { λ r. ⌜ r ≤ at + 12 ⌝ }
+{
+    let p = put_word(text, at, b" ");
+    let q = put_decimal(text, p, number as u32);
+    put_word(text, q, b"\n")
+}
+
+fn put_start(text: &mut [u8], at: usize, answer: Start) -> usize
+    requires { ⌜ at + 12 ≤ length (now text) ⌝ }
+    ensures { λ r. ⌜ Puts (startText answer) at (now (text .entry)) r (now (text .exit)) ⌝ }
+    ensures { λ r. ⌜ r ≤ at + 12 ⌝ }
+{
+    match answer {
+        Start::Done => put_word(text, at, b" ok\n"),
+        Start::Refused(number) => put_refusal(text, at, number),
+    }
+}
+
+pub(crate) fn put_begun(text: &mut [u8], at: usize, beat: u32, answer: Start) -> usize
+    requires { ⌜ at + lineRoom ≤ length (now text) ⌝ }
+    ensures { λ r. ⌜ Puts (ascii "begin " ++ (decimal beat ++ startText answer)) at (now (text .entry)) r (now (text .exit)) ⌝ }
+    ensures { λ r. ⌜ r ≤ at + lineRoom ⌝ }
+{
+    let p = put_word(text, at, b"begin ");
+    let q = put_decimal(text, p, beat);
+    put_start(text, q, answer)
+}
+
+fn put_not_taken(text: &mut [u8], at: usize, number: u8) -> usize
+    requires { ⌜ at + lineRoom ≤ length (now text) ⌝ }
+    ensures { λ r. ⌜ Puts (ascii "take" ++ endText (decimal number)) at (now (text .entry)) r (now (text .exit)) ⌝ }
+    ensures { λ r. ⌜ r ≤ at + lineRoom ⌝ }
+{
+    let p = put_word(text, at, b"take");
+    put_refusal(text, p, number)
+}
+
+pub(crate) fn put_taken(text: &mut [u8], at: usize, answer: Taken) -> usize
+    requires { ⌜ at + lineRoom ≤ length (now text) ⌝ }
+    ensures { λ r. ⌜ Puts (takenText answer) at (now (text .entry)) r (now (text .exit)) ⌝ }
+    ensures { λ r. ⌜ r ≤ at + lineRoom ⌝ }
+{
+    match answer {
+        Taken::First => put_word(text, at, b"take first\n"),
+        Taken::Second => put_word(text, at, b"take second\n"),
+        Taken::Known => put_word(text, at, b"take known\n"),
+        Taken::Refused(number) => put_not_taken(text, at, number),
+    }
+}
+
+// The mark, and the line's end.
+fn put_mark(text: &mut [u8], at: usize, parted: bool) -> usize
+    requires { ⌜ at + 8 ≤ length (now text) ⌝ }
+    ensures { λ r. ⌜ Puts (markText parted ++ ascii "\n") at (now (text .entry)) r (now (text .exit)) ⌝ }
+    ensures { λ r. ⌜ r ≤ at + 8 ⌝ }
+{
+    if parted {
+        return put_word(text, at, b" parted\n");
+    }
+    put_word(text, at, b"\n")
+}
+
+// What stands: the decided blocks, and the mark.
+fn put_stand(text: &mut [u8], at: usize, decided: u8, parted: bool) -> usize
+    requires { ⌜ at + 19 ≤ length (now text) ⌝ }
+    ensures { λ r. ⌜ Puts (standText decided parted) at (now (text .entry)) r (now (text .exit)) ⌝ }
+    ensures { λ r. ⌜ r ≤ at + 19 ⌝ }
+{
+    let p = put_word(text, at, b" ");
+    let q = put_decimal(text, p, decided as u32);
+    put_mark(text, q, parted)
+}
+
+fn put_idle(text: &mut [u8], at: usize, decided: u8, parted: bool) -> usize
+    requires { ⌜ at + lineRoom ≤ length (now text) ⌝ }
+    ensures { λ r. ⌜ Puts (ascii "act none 0" ++ standText decided parted) at (now (text .entry)) r (now (text .exit)) ⌝ }
+    ensures { λ r. ⌜ r ≤ at + lineRoom ⌝ }
+{
+    let p = put_word(text, at, b"act none 0");
+    put_stand(text, p, decided, parted)
+}
+
+// A message was made: its kind's word, its blocks, and what stands.
+fn put_made(text: &mut [u8], at: usize, word: &[u8], k: u8, decided: u8, parted: bool) -> usize
+    requires { ⌜ (at + lineRoom ≤ length (now text)) × (length (now word) ≤ 19) ⌝ }
+    ensures { λ r. ⌜ Puts (now (word .entry) ++ (decimal k ++ standText decided parted)) at (now (text .entry)) r (now (text .exit)) ⌝ }
+    ensures { λ r. ⌜ r ≤ at + lineRoom ⌝ }
+{
+    let p = put_word(text, at, word);
+    let q = put_decimal(text, p, k as u32);
+    put_stand(text, q, decided, parted)
+}
+
+fn put_not_acted(text: &mut [u8], at: usize, number: u8) -> usize
+    requires { ⌜ at + lineRoom ≤ length (now text) ⌝ }
+    ensures { λ r. ⌜ Puts (ascii "act" ++ endText (decimal number)) at (now (text .entry)) r (now (text .exit)) ⌝ }
+    ensures { λ r. ⌜ r ≤ at + lineRoom ⌝ }
+{
+    let p = put_word(text, at, b"act");
+    put_refusal(text, p, number)
+}
+
+pub(crate) fn put_acted(
+    text: &mut [u8],
+    at: usize,
+    answer: Made,
+    decided: u8,
+    parted: bool,
+) -> usize
+    requires { ⌜ at + lineRoom ≤ length (now text) ⌝ }
+    ensures { λ r. ⌜ Puts (actedText answer decided parted) at (now (text .entry)) r (now (text .exit)) ⌝ }
+    ensures { λ r. ⌜ r ≤ at + lineRoom ⌝ }
+{
+    match answer {
+        Made::Nothing => put_idle(text, at, decided, parted),
+        Made::Log(k) => put_made(text, at, b"act log ", k, decided, parted),
+        Made::Proposal(k) => put_made(text, at, b"act proposal ", k, decided, parted),
+        Made::Refused(number) => put_not_acted(text, at, number),
+    }
+}
