@@ -1,0 +1,3 @@
+//! Independent of the proved code, and held against it: a model of one bench by its history, random rolls, volumes of many
+//! benches, and a record implementation for the benchmark.
+pub mod proved;
