@@ -1,3 +1,4 @@
 //! Independent of the proved code, and held against it: a model of one bench by its history, random rolls, volumes of many
 //! benches, and a record implementation for the benchmark.
+pub mod history;
 pub mod proved;
