@@ -2,3 +2,4 @@
 //! benches, and a record implementation for the benchmark.
 pub mod history;
 pub mod proved;
+pub mod rolls;

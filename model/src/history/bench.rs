@@ -325,7 +325,7 @@ impl Bench {
     }
 
     /// The decided log that stands and the parted mark, by replaying the decisions.
-    fn standing(&self) -> (&[Block], bool) {
+    pub fn standing(&self) -> (&[Block], bool) {
         let (mut decided, mut parted): (&[Block], bool) = (&[], false);
         for (_, log) in &self.decisions {
             if is_prefix(decided, log) {

@@ -35,6 +35,21 @@ pub enum NoRoll {
     NotOpened,
 }
 
+impl NoRoll {
+    pub const ALL: [NoRoll; 10] = [
+        NoRoll::TooLong,
+        NoRoll::NoSizes,
+        NoRoll::TooManyEvents,
+        NoRoll::MarksCut,
+        NoRoll::BadKind,
+        NoRoll::BadSecondByte,
+        NoRoll::BadBodyLength,
+        NoRoll::BodiesCut,
+        NoRoll::LeftOver,
+        NoRoll::NotOpened,
+    ];
+}
+
 /// The whole output for the bytes of a roll.
 pub fn text(roll: &[u8]) -> Vec<u8> {
     text_under(Rules::Paper, roll)
@@ -84,8 +99,8 @@ fn said(reply: &Reply, bench: &Bench) -> String {
                 Some(message) if message.kind == Kind::Log => ("log", message.log.len()),
                 Some(message) => ("proposal", message.log.len()),
             };
-            let mark = if bench.parted() { " parted" } else { "" };
-            format!("{kind} {blocks} {}{mark}", bench.decided().len())
+            let (decided, parted) = bench.standing();
+            format!("{kind} {blocks} {}{}", decided.len(), if parted { " parted" } else { "" })
         }
     }
 }
@@ -145,38 +160,37 @@ fn read_call(kind: u8, body: &[u8]) -> Call {
     }
 }
 
-/// The writing of a list of calls. Lists that no roll holds (too many events, a body too long) are written all the same, their
-/// sizes cut to the bytes there are, so that such rolls can be tried.
+/// The writing of a list of calls.
 pub fn write_roll(n: u8, own: u8, calls: &[Call]) -> Vec<u8> {
+    write_events(n, own, &calls.iter().map(event).collect::<Vec<_>>())
+}
+
+/// The writing of events by kind and body, whatever they hold: lists that no roll has can be written too, to be tried.
+pub fn write_events(n: u8, own: u8, events: &[(u8, Vec<u8>)]) -> Vec<u8> {
     let mut roll = vec![n, own];
-    roll.extend((calls.len() as u16).to_le_bytes());
-    let bodies: Vec<Vec<u8>> = calls.iter().map(body).collect();
-    for (call, body) in calls.iter().zip(&bodies) {
-        roll.extend([kind_byte(call), 0]);
+    roll.extend((events.len() as u16).to_le_bytes());
+    for (kind, body) in events {
+        roll.extend([*kind, 0]);
         roll.extend((body.len() as u16).to_le_bytes());
     }
-    roll.extend(bodies.concat());
+    roll.extend(events.iter().flat_map(|(_, body)| body));
     roll
 }
 
-fn kind_byte(call: &Call) -> u8 {
+/// A call's kind and body.
+pub fn event(call: &Call) -> (u8, Vec<u8>) {
     match call {
-        Call::Begin(_) => 1,
-        Call::Receive(_) => 2,
-        Call::Act { .. } => 3,
-    }
-}
-
-fn body(call: &Call) -> Vec<u8> {
-    match call {
-        Call::Begin(beat) => beat.to_le_bytes().to_vec(),
-        Call::Receive(bytes) => bytes.clone(),
-        Call::Act { block, priority } => [
-            &block.name.to_le_bytes()[..],
-            &priority.to_le_bytes(),
-            &block.count.to_le_bytes(),
-        ]
-        .concat(),
+        Call::Begin(beat) => (1, beat.to_le_bytes().to_vec()),
+        Call::Receive(bytes) => (2, bytes.clone()),
+        Call::Act { block, priority } => (
+            3,
+            [
+                &block.name.to_le_bytes()[..],
+                &priority.to_le_bytes(),
+                &block.count.to_le_bytes(),
+            ]
+            .concat(),
+        ),
     }
 }
 
