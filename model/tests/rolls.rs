@@ -7,7 +7,7 @@ use model::rolls::tally::Tally;
 use model::rolls::Generator;
 
 /// How many seeds a run tries.
-const SEEDS: u64 = 12_000;
+const SEEDS: u64 = 24_000;
 /// How many seeds a mistake is looked for in.
 const SEEDS_FOR_MISTAKES: u64 = 400;
 

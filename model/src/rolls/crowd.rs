@@ -95,6 +95,18 @@ impl Crowd {
         messages
     }
 
+    /// A vote out of turn, from any number up to `n` itself.
+    pub fn stray(&self, random: &mut Random, n: u8, view: u32) -> Message {
+        let sender = random.from_to(0, usize::from(n)) as u8;
+        Message {
+            kind: Kind::Log,
+            sender,
+            view: view.saturating_sub(random.below(3) as u32),
+            priority: 0,
+            log: self.log.clone(),
+        }
+    }
+
     /// Up to so many of those heard, and at times the bench's own number.
     fn speakers(&self, random: &mut Random, most: usize) -> Vec<u8> {
         let mut speakers = self.senders.clone();

@@ -31,7 +31,7 @@ pub fn roll(random: &mut Random) -> Vec<u8> {
 
 /// Too many bytes: by left-over ones, or with nothing else wrong.
 fn too_long(random: &mut Random, mut good: Vec<u8>) -> Vec<u8> {
-    let bytes = MOST_ROLL + random.from_to(1, 9);
+    let bytes = MOST_ROLL + random.pick(&[1, 1, 1, 2, 9]);
     if random.percent(50) {
         good.resize(bytes, 0);
         return good;

@@ -61,15 +61,17 @@ pub fn numbers(random: &mut Random) -> (u8, u8) {
     (n as u8, random.below(n) as u8)
 }
 
+/// A block; some names and counts differ in their high bytes alone.
 pub fn block(random: &mut Random) -> Block {
-    let name = if random.percent(3) {
-        u64::MAX
+    let far = [u64::MAX, 1 << 63, 1 << 32 | 1, 1 << 8 | 1];
+    let name = if random.percent(5) {
+        random.pick(&far)
     } else {
         random.from_to(1, 4) as u64
     };
     Block {
         name,
-        count: random.pick(&[1, 1, 1, 1, 0, 2, u16::MAX]),
+        count: random.pick(&[1, 1, 1, 1, 1, 0, 2, 257, u16::MAX]),
     }
 }
 
@@ -91,7 +93,7 @@ pub fn log(random: &mut Random, most: usize) -> Log {
 
 /// A priority; ties are frequent.
 pub fn priority(random: &mut Random) -> u64 {
-    random.pick(&[0, 1, 2, 3, 3, 1 << 32, u64::MAX])
+    random.pick(&[0, 1, 2, 3, 3, 1 << 8, 1 << 32, 1 << 63, u64::MAX])
 }
 
 /// The log with one more block, or itself at 64.
@@ -103,9 +105,14 @@ pub fn extended(random: &mut Random, log: &[Block]) -> Log {
     longer
 }
 
-/// A log that leaves this one somewhere.
+/// A log that leaves this one somewhere, at times by the high bytes of one block alone.
 pub fn branched(random: &mut Random, log: &[Block]) -> Log {
     let kept = random.below(log.len() + 1);
+    if kept < log.len() && random.percent(30) {
+        let mut other = log.to_vec();
+        other[kept] = lookalike(random, log[kept]);
+        return other;
+    }
     let rest = if random.percent(50) {
         1
     } else {
@@ -115,6 +122,24 @@ pub fn branched(random: &mut Random, log: &[Block]) -> Log {
     other.extend((0..rest).map(|_| block(random)));
     other.truncate(MOST_BLOCKS);
     other
+}
+
+/// A block that is the same to whoever reads half of it.
+fn lookalike(random: &mut Random, block: Block) -> Block {
+    match random.below(3) {
+        0 => Block {
+            name: block.name ^ 1 << 32,
+            ..block
+        },
+        1 => Block {
+            name: block.name ^ 1 << 63,
+            ..block
+        },
+        _ => Block {
+            count: block.count ^ 1 << 8,
+            ..block
+        },
+    }
 }
 
 /// A prefix of this log.

@@ -78,7 +78,7 @@ fn spoil(random: &mut Random, n: u8, bytes: &mut Vec<u8>) {
         5 if head => bytes[random.pick(&[3, 8, 15])] = random.pick(&[1, 128]),
         6 if head => bytes[1] = random.pick(&[n, n + 1, 255]),
         7 if head => bytes[4..8].copy_from_slice(&view_too_high(random).to_le_bytes()),
-        8 if bytes.len() >= 26 => bytes[16..24].fill(0),
+        8 if head => unname(random, bytes),
         _ if head => bytes[4] = random.bits() as u8,
         _ => bytes.clear(),
     }
@@ -86,4 +86,14 @@ fn spoil(random: &mut Random, n: u8, bytes: &mut Vec<u8>) {
 
 fn view_too_high(random: &mut Random) -> u32 {
     random.pick(&[LAST_VIEW + 1, LAST_VIEW + 2, 1 << 24, u32::MAX])
+}
+
+/// Takes the name of one of the blocks away.
+fn unname(random: &mut Random, bytes: &mut [u8]) {
+    let said = usize::from(bytes[0]);
+    let (names, _) = bytes[16..].as_chunks_mut::<8>();
+    let blocks = names.len().min(said);
+    if blocks > 0 {
+        names[random.below(blocks)] = [0; 8];
+    }
 }

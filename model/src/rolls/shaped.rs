@@ -18,8 +18,10 @@ pub struct Manner {
     blocks: usize,
     /// A block offered.
     offers: usize,
-    /// A beat not begun, or begun and not acted in.
+    /// A beat not begun, at times with those after it, or begun and not acted in.
     sleep: usize,
+    /// A call that is refused, in between.
+    stumbles: usize,
 }
 
 impl Manner {
@@ -46,6 +48,7 @@ impl Manner {
             blocks: first_blocks(random),
             offers: random.pick(&[0, 50, 80, 100]),
             sleep,
+            stumbles: random.pick(&[0, 0, 5, 20]),
         }
     }
 
@@ -72,6 +75,7 @@ impl Manner {
             blocks,
             offers: random.pick(&[90, 100]),
             sleep: 0,
+            stumbles: 0,
         }
     }
 }
@@ -106,6 +110,7 @@ pub fn roll(random: &mut Random, manner: impl Fn(&mut Random) -> Manner) -> Vec<
         bench,
         crowd,
         manner,
+        wakes: 0,
     };
     // In the middle of the calendar the first thing heard is a vote: nothing was graded before it.
     let first = 4 * stage.manner.view + u32::from(stage.manner.view > 0);
@@ -125,6 +130,8 @@ struct Stage<'a> {
     bench: Bench,
     crowd: Crowd,
     manner: Manner,
+    /// The beat until which it sleeps.
+    wakes: u32,
 }
 
 impl Stage<'_> {
@@ -142,22 +149,53 @@ impl Stage<'_> {
 
     /// The bench's part in a beat, and the log it voted for.
     fn attend(&mut self, beat: u32) -> Option<Log> {
-        if self.random.percent(self.manner.sleep) {
+        if self.sleeps(beat) {
             return None;
         }
         self.call(Call::Begin(beat));
         for message in self.crowd.arriving(self.random, beat) {
+            self.stumble(beat);
             self.call(Call::Receive(message.write()));
         }
+        self.stumble(beat);
         if self.random.percent(self.manner.sleep / 2) {
             return None;
         }
         let block = draft::offer(self.random, self.manner.offers);
         let priority = draft::priority(self.random);
-        match self.call(Call::Act { block, priority })? {
+        let reply = self.call(Call::Act { block, priority })?;
+        self.stumble(beat);
+        match reply {
             Reply::Acted(Some(message)) if message.kind == Kind::Log => Some(message.log),
             _ => None,
         }
+    }
+
+    /// Whether it misses this beat; one time in four several more, so that whole views pass it by.
+    fn sleeps(&mut self, beat: u32) -> bool {
+        if beat < self.wakes {
+            return true;
+        }
+        let sleeps = self.random.percent(self.manner.sleep);
+        if sleeps && self.random.percent(25) {
+            self.wakes = beat + self.random.from_to(2, 13) as u32;
+        }
+        sleeps
+    }
+
+    /// At times a call that is refused here, or a message of the present view under any number.
+    fn stumble(&mut self, beat: u32) {
+        if !self.random.percent(self.manner.stumbles) {
+            return;
+        }
+        let (n, _) = self.manner.numbers;
+        let call = match self.random.below(4) {
+            0 => Call::Begin(beat - beat.min(self.random.below(3) as u32)),
+            1 => Call::Begin(LAST_BEAT + 1),
+            2 => Call::Receive(vec![0; self.random.below(40)]),
+            _ => Call::Receive(self.crowd.stray(self.random, n, beat / 4).write()),
+        };
+        self.call(call);
     }
 
     /// Adds a call, if there is room, and lets the model make it.
