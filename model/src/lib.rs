@@ -3,3 +3,4 @@
 pub mod history;
 pub mod proved;
 pub mod rolls;
+pub mod volume;
