@@ -1,6 +1,6 @@
 //! One bench as a record, written for speed in safe Rust: state is changed in place, sets of senders are bit masks, logs are
-//! compared as slices. It gives the answers of document 01 call by call, refusals 9 and 8 tested in each, as the proved code does;
-//! the benchmark measures that code against this one.
+//! compared as slices. It gives the answers of document 01 call by call, refusals 9 and 8 tested in each, as the proved code
+//! does; the benchmark measures that code against this one.
 mod acts;
 mod agreement;
 mod bench;

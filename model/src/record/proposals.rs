@@ -56,8 +56,8 @@ impl Proposals {
         Word::Second
     }
 
-    /// The proposal of highest priority that has the lock as a prefix, the lower number on a tie. Priorities are compared first:
-    /// only the log of one that would win is looked at.
+    /// The proposal of highest priority that has the lock as a prefix, the lower number on a tie. Priorities are compared
+    /// first: only the log of one that would win is looked at.
     pub fn best(&self, lists: &Lists, lock: Log) -> Option<Log> {
         let mut best: Option<(u64, Log)> = None;
         for i in senders(self.filed & !self.aside) {
