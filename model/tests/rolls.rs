@@ -1,7 +1,7 @@
 //! The proved roll function against the model over a fixed set of random rolls.
 use model::history::bench::Rules;
 use model::history::roll::{text, text_under, write_events, MOST_EVENTS};
-use model::proved::{roll_text, write_roll_text, MOST_TEXT};
+use model::proved::{roll_text, write_roll_text, LEAST_BUFFER};
 use model::rolls::compare::{compare, Difference};
 use model::rolls::tally::Tally;
 use model::rolls::Generator;
@@ -74,7 +74,7 @@ fn some_rolls() -> Vec<Vec<u8>> {
 #[test]
 fn a_buffer_too_small_is_left_as_it_was() {
     for roll in some_rolls() {
-        for length in [0, 1, 100, MOST_TEXT - 1] {
+        for length in [0, 1, 100, LEAST_BUFFER - 1] {
             let mut buffer = vec![0xA5; length];
             assert_eq!(write_roll_text(&roll, &mut buffer), 0);
             assert!(buffer.iter().all(|&byte| byte == 0xA5));
@@ -87,7 +87,7 @@ fn bytes_past_the_text_are_left_as_they_were() {
     for roll in some_rolls() {
         let expected = text(&roll);
         for room in [0, 1, 5_000] {
-            let mut buffer = vec![0xA5; MOST_TEXT + room];
+            let mut buffer = vec![0xA5; LEAST_BUFFER + room];
             assert_eq!(write_roll_text(&roll, &mut buffer), expected.len());
             assert_eq!(buffer[..expected.len()], expected);
             assert!(buffer[expected.len()..].iter().all(|&byte| byte == 0xA5));
@@ -99,6 +99,6 @@ fn bytes_past_the_text_are_left_as_they_were() {
 fn a_long_text_fits() {
     let roll = write_events(32, 31, &vec![(1, vec![255; 4]); MOST_EVENTS]);
     let expected = format!("bench 31 of 32\n{}", "begin 4294967295 10\n".repeat(MOST_EVENTS));
-    assert_eq!((expected.len(), MOST_TEXT), (15 + 20 * 1_024, 15 + 26 * 1_024));
+    assert!(expected.len() <= LEAST_BUFFER);
     assert_eq!(roll_text(&roll), expected.as_bytes());
 }

@@ -178,7 +178,7 @@ fn print_heading() {
 
 fn main() {
     print_heading();
-    let mut text = vec![0; proved::MOST_TEXT];
+    let mut text = vec![0; proved::LEAST_BUFFER];
     let mut rows: Vec<Row> = Vec::new();
     for case in whole_rolls() {
         rows.push(whole_row(&case, &mut text));

@@ -3,7 +3,7 @@ use super::bench::Bench;
 use super::lists::{Block, LEAST_LENT};
 use super::message::MOST_BYTES;
 use super::text::Text;
-use crate::proved::MOST_TEXT;
+use crate::proved::LEAST_BUFFER;
 
 const MOST_ROLL: usize = 65_536;
 const MOST_EVENTS: usize = 1_024;
@@ -95,9 +95,9 @@ fn run(roll: &Roll, text: &mut Text) -> Option<()> {
     Some(())
 }
 
-/// The text of a roll, into a lent buffer; how many bytes it has. A buffer under `MOST_TEXT` bytes gives 0 and stays as it was.
+/// The text of a roll, into a lent buffer; how many bytes it has. A buffer under `LEAST_BUFFER` bytes gives 0 and stays as it was.
 pub fn write_roll_text(roll: &[u8], text: &mut [u8]) -> usize {
-    if text.len() < MOST_TEXT {
+    if text.len() < LEAST_BUFFER {
         return 0;
     }
     let mut text = Text::new(text);
@@ -109,7 +109,7 @@ pub fn write_roll_text(roll: &[u8], text: &mut [u8]) -> usize {
 
 /// The text of a roll.
 pub fn roll_text(roll: &[u8]) -> Vec<u8> {
-    let mut text = vec![0; MOST_TEXT];
+    let mut text = vec![0; LEAST_BUFFER];
     let length = write_roll_text(roll, &mut text);
     text.truncate(length);
     text

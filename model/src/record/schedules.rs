@@ -5,7 +5,7 @@ use super::proposals::Proposals;
 use super::roll::roll_text;
 use super::*;
 use crate::bench_cases::events::Events;
-use crate::proved::MOST_TEXT;
+use crate::proved::LEAST_BUFFER;
 
 fn log(names: &[u64]) -> Vec<Block> {
     names.iter().map(|&name| Block { name, count: 1 }).collect()
@@ -311,12 +311,12 @@ fn the_other_refusals_have_their_order() {
 #[test]
 fn a_short_text_buffer_stays_as_it_was() {
     let roll = Events::new().roll(32, 31);
-    let mut short = vec![7; MOST_TEXT - 1];
+    let mut short = vec![7; LEAST_BUFFER - 1];
     assert_eq!(
         (write_roll_text(&roll, &mut short), short.iter().all(|&byte| byte == 7)),
         (0, true)
     );
-    let mut text = vec![7; MOST_TEXT];
+    let mut text = vec![7; LEAST_BUFFER];
     assert_eq!(write_roll_text(&roll, &mut text), 15);
     assert_eq!(&text[..15], b"bench 31 of 32\n");
     assert!(text[15..].iter().all(|&byte| byte == 7));
