@@ -9,7 +9,7 @@ use lib.Dec.{eqb, ltb}
 use lib.ListN.{length, getD, take, drop, length-append}
 use Rattle.message.specs.Numbers.{put, numberIn}
 use Rattle.message.specs.Logs.{Block}
-use Rattle.message.proofs.PartLaws.{put-append}
+use Rattle.message.proofs.PartLaws.{put-append, length-put}
 use Rattle.message.proofs.Acceptance.{length-blocks}
 use Rattle.bench.specs.Layout.{Lent}
 use Rattle.bench.specs.Calls.{Call, begin, receive, act, Reply, refused, done, State, Opening, Step}
@@ -190,7 +190,7 @@ module _ (s before : List ℕ) where
     text-is : Puts (textOf s) 0 before q after → q ≤ mostRoll → WritesText s before q after
     text-is f k = record {
       answered = rw (le-ltb (length before) mostRoll room) (f .place ∙ omega arith);
-      fits = omega arith;
+      fits = let n = ap length (f .text) ∙ length-put before 0 (textOf s) in omega arith;
       buffer = rw (le-ltb (length before) mostRoll room) (f .text);
     }
 

@@ -102,5 +102,5 @@ scantBuffer before = ltb (length before) mostRoll
 -- answer is 0; no text is empty.
 pub record WritesText (s before : List ℕ) (r : ℕ) (after : List ℕ) : Type 0 where
   pub answered : r ≡ pick (scantBuffer before) 0 (length (textOf s))
-  pub fits : r ≤ length before
+  pub fits : r ≤ length after
   pub buffer : after ≡ pick (scantBuffer before) before (put before 0 (textOf s))
