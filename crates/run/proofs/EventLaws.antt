@@ -28,19 +28,19 @@ use Rattle.bench.specs.declared.Acted.{Acted}
 use Rattle.run.specs.declared.Printed.{Printed}
 use Rattle.run.specs.Texts.{ascii, decimal}
 use Rattle.run.specs.Roll.{mostRoll, misshapen, eventsOf, benchesOf, ownOf, kindAt, lengthAt, bodiesPlace, beginKind, receiveKind, offeredAt, freshBuffer, callAt, callsFrom, callsOf}
-use Rattle.run.specs.RollText.{wordText, madeText, markText, replyText, lineOf, stepOf, linesOf, noRollText, firstLine, openedText, freshLists, textOf, WritesText}
+use Rattle.run.specs.RollText.{wordText, madeText, markText, replyText, lineFor, lineOf, stepOf, linesOf, noRollText, firstLine, openedText, freshLists, textOf, WritesText}
 use Rattle.run.specs.RollSteps.{lineRoom, endText, startText, takenText, standText, actedText, Puts, Remains, Prints}
 use Rattle.run.proofs.TextLaws.{puts-then}
 
 -- ---- the line of a call, by the code's answer
 
 start-line : (a : Start) (t : Step) (beat : ℕ) → startReply a ≡ t .answer .reply → ascii "begin " ++ (decimal beat ++ startText a) ≡ lineOf (begin beat) t
-unfolding lineOf replyText startText startReply endText
+unfolding lineFor replyText startText startReply endText
 start-line starts.Done t beat e = rw (← e) (sym (append-assoc (ascii "begin ") (decimal beat) (ascii " ok\n")))
 start-line (starts.Refused k) t beat e = rw (← e) (sym (append-assoc (ascii "begin ") (decimal beat) (endText (decimal k))))
 
 taken-line : (a : Taken) (t : Step) (bytes : List ℕ) → takenReply a ≡ t .answer .reply → takenText a ≡ lineOf (receive bytes) t
-unfolding lineOf replyText takenText takenReply endText
+unfolding lineFor replyText takenText takenReply endText
 taken-line takings.First t bytes e = rw (← e)
 taken-line takings.Second t bytes e = rw (← e)
 taken-line takings.Known t bytes e = rw (← e)
@@ -52,7 +52,7 @@ stand-end xs d parted = simp append-assoc
 
 acted-line : (a : Made) (t : Step) (block : Block) (priority : ℕ) (buffer out : List ℕ) → madeReply out a ≡ t .answer .reply
     → actedText a (t .held .bench .decided) (t .held .bench .parted) ≡ lineOf (act block priority buffer) t
-unfolding lineOf replyText actedText madeReply madeText endText
+unfolding lineFor replyText actedText madeReply madeText endText
 acted-line makings.Nothing t block priority buffer out e =
     rw (← e) (ap (λ (l : List ℕ). ascii "act " ++ l) (stand-end (ascii "none 0") (t .held .bench .decided) (t .held .bench .parted)))
 acted-line (makings.Log k) t block priority buffer out e =

@@ -34,3 +34,6 @@ pub mod RollForm
 pub mod TextLaws
 pub mod LineLaws
 pub mod EventLaws
+pub mod DecimalLaws
+pub mod RollHistory
+pub mod RollTables

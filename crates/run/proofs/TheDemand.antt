@@ -69,7 +69,7 @@ opens-tied n own x o =
 
 -- ---- the theorem
 
-bench-simulates : Simulation theBench
+pub bench-simulates : Simulation theBench
 bench-simulates = record {
   rightly = opens-rightly;
   Rel = Tie;

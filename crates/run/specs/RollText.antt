@@ -13,8 +13,9 @@ use Rattle.message.specs.Message.{Meaning, logMessage, proposalMessage}
 use Rattle.agreement.specs.Filing.{Word, first, second, known}
 use Rattle.bench.specs.Layout.{Lent, leastLent}
 use Rattle.bench.specs.Calls.{Call, begin, receive, act, Reply, refused, done, took, acted, State, Opening, Step}
+use Rattle.bench.specs.Acts.{Stand}
+use Rattle.bench.specs.History.{History, step, answer, standIn}
 use Rattle.bench.specs.ByRecord.{openOf}
-use Rattle.bench.specs.declared.Bench.{Bench}
 use Rattle.run.specs.Demand.{byValue, call}
 use Rattle.run.specs.TheBench.{theBench}
 use Rattle.run.specs.Texts.{ascii, decimal}
@@ -38,12 +39,12 @@ abbrev pub markText : Bool → List ℕ
 markText true = ascii " parted"
 markText false = []
 
--- ok, WORD, or MADE K D; a refusal "as its number". D and the mark are those after the call.
-unfoldable pub replyText : Reply → Bench → List ℕ
-replyText (refused k) b = decimal k
-replyText done b = ascii "ok"
-replyText (took w) b = wordText w
-replyText (acted made) b = madeText made ++ (ascii " " ++ (decimal (b .decided) ++ markText (b .parted)))
+-- ok, WORD, or MADE K D; a refusal "as its number". D, the blocks decided, and the mark are those after the call.
+unfoldable pub replyText : Reply → ℕ → Bool → List ℕ
+replyText (refused k) d parted = decimal k
+replyText done d parted = ascii "ok"
+replyText (took w) d parted = wordText w
+replyText (acted made) d parted = madeText made ++ (ascii " " ++ (decimal d ++ markText parted))
 
 -- A refused begin prints the beat asked for too.
 abbrev pub callText : Call → List ℕ
@@ -52,8 +53,11 @@ callText (receive bytes) = ascii "take"
 callText (act block priority out) = ascii "act"
 
 -- every line ends in a line feed
-unfoldable pub lineOf : Call → Step → List ℕ
-lineOf c t = callText c ++ (ascii " " ++ (replyText (t .answer .reply) (t .held .bench) ++ ascii "\n"))
+unfoldable pub lineFor : Call → Reply → ℕ → Bool → List ℕ
+lineFor c r d parted = callText c ++ (ascii " " ++ (replyText r d parted ++ ascii "\n"))
+
+abbrev pub lineOf : Call → Step → List ℕ
+lineOf c t = lineFor c (t .answer .reply) (t .held .bench .decided) (t .held .bench .parted)
 
 -- ---- the lines, a call after the other: a refusal does not end the run
 
@@ -63,6 +67,13 @@ stepOf x c = call theBench byValue x c
 unfoldable pub linesOf : State → List Call → List ℕ
 linesOf x [] = []
 linesOf x (c ∷ cs) = lineOf c (stepOf x c) ++ linesOf (stepOf x c .held) cs
+
+-- The same worked out from the list of calls, not from the record: the answers, and what the decisions come to.
+unfoldable pub linesBy : ℕ → ℕ → History → List Call → List ℕ
+linesBy n own p [] = []
+linesBy n own p (c ∷ cs) =
+    let stands : Stand = standIn (step n own p c .actions) in
+    lineFor c (answer n own p c .reply) (length (stands .log)) (stands .parted) ++ linesBy n own (step n own p c) cs
 
 -- ---- the text
 
@@ -85,7 +96,7 @@ openedText s l o =
     (firstLine (ownOf s) (benchesOf s) ++ linesOf (record { bench = o .bench; lent = l }) (callsOf s))
     noRollText
 
--- the lent lists that the bench starts on; what they hold at first is never read
+-- the lent lists that the bench starts on; what they hold at first shows nowhere (RollHistory: any-lists)
 abbrev pub freshLists : Lent
 freshLists = record { names = replicate leastLent 0; counts = replicate leastLent 0 }
 
