@@ -1,14 +1,18 @@
-//! Random rolls with new seeds until the time is over: `soak SECONDS`, or one kept roll again: `soak roll FILE`.
+//! Random rolls and volumes of many benches, with new seeds until the time is over: `soak SECONDS`; or one kept roll again:
+//! `soak roll FILE`.
 use model::history::roll::text;
 use model::proved::roll_text;
 use model::rolls::compare::{compare, first_difference, from_hex, Difference};
 use model::rolls::tally::Tally;
+use model::volume::run_seed;
 use std::process::ExitCode;
 use std::time::{Duration, Instant, SystemTime, UNIX_EPOCH};
 
 const USAGE: &str = "usage: soak SECONDS (a whole number from 1), or soak roll FILE (a roll in hex, as a difference leaves it)";
 /// Seconds between two progress lines.
 const PROGRESS: u64 = 5;
+/// A volume takes as long as some dozen rolls: one of every so many seeds has one.
+const VOLUME_EVERY: u64 = 16;
 
 fn main() -> ExitCode {
     let arguments: Vec<String> = std::env::args().skip(1).collect();
@@ -50,7 +54,9 @@ struct Soak {
     tally: Tally,
     rolls: u64,
     lines: usize,
-    differences: u64,
+    volumes: u64,
+    /// Rolls whose texts differ, and volumes with a fault.
+    wrong: u64,
 }
 
 impl Soak {
@@ -61,7 +67,10 @@ impl Soak {
         let start = Instant::now();
         let mut next_line = Duration::from_secs(PROGRESS);
         for seed in first.. {
-            self.try_one(seed);
+            self.try_roll(seed);
+            if seed % VOLUME_EVERY == 0 {
+                self.try_volume(seed);
+            }
             if start.elapsed() >= next_line {
                 self.progress(start);
                 next_line = start.elapsed() + Duration::from_secs(PROGRESS);
@@ -74,31 +83,37 @@ impl Soak {
         print!("{}", self.tally);
         let missing = self.tally.missing();
         missing.iter().for_each(|row| println!("never met: {row}"));
-        self.differences == 0 && missing.is_empty()
+        self.wrong == 0 && missing.is_empty()
     }
 
-    fn try_one(&mut self, seed: u64) {
+    fn try_roll(&mut self, seed: u64) {
         self.rolls += 1;
         match compare(seed, &mut self.tally, roll_text) {
             Ok(lines) => self.lines += lines,
             Err(difference) => {
-                self.differences += 1;
+                self.wrong += 1;
                 report(&difference);
             }
         }
     }
 
+    fn try_volume(&mut self, seed: u64) {
+        self.volumes += 1;
+        if let Some(fault) = run_seed(seed).fault() {
+            self.wrong += 1;
+            println!("FAULT {fault}");
+        }
+    }
+
     fn progress(&self, start: Instant) {
-        let (
-            seconds,
-            Soak {
-                rolls,
-                lines,
-                differences,
-                ..
-            },
-        ) = (start.elapsed().as_secs(), self);
-        println!("{seconds:6} s: {rolls} seeds, {lines} lines compared, {differences} differences");
+        println!(
+            "{:6} s: {} rolls, {} lines compared, {} volumes, {} wrong",
+            start.elapsed().as_secs(),
+            self.rolls,
+            self.lines,
+            self.volumes,
+            self.wrong
+        );
     }
 }
 
