@@ -51,7 +51,7 @@ unfolding standText
 stand-end xs d parted = simp append-assoc
 
 acted-line : (a : Made) (t : Step) (block : Block) (priority : ℕ) (buffer out : List ℕ) → madeReply out a ≡ t .answer .reply
-    → actedText a (t .held .bench .decided) (t .held .bench .parted) ≡ lineOf (act block priority buffer) t
+    → actedText (t .held .bench .decided) (t .held .bench .parted) a ≡ lineOf (act block priority buffer) t
 unfolding lineFor replyText actedText madeReply madeText endText
 acted-line makings.Nothing t block priority buffer out e =
     rw (← e) (ap (λ (l : List ℕ). ascii "act " ++ l) (stand-end (ascii "none 0") (t .held .bench .decided) (t .held .bench .parted)))
@@ -87,7 +87,7 @@ module _ (t : Step) (ns cs : List ℕ) (at : ℕ) (l : List ℕ) (p : ℕ) (m : 
   }
 
   pub act-prints : (r : Acted) (block : Block) (priority : ℕ) (buffer out : List ℕ) → ActGives t r ns cs out
-      → Puts (actedText (r .answer) (r .bench .decided) (r .bench .parted)) at l p m
+      → Puts (actedText (r .bench .decided) (r .bench .parted) (r .answer)) at l p m
       → Prints (act block priority buffer) t at l (record { bench = r .bench; at = p }) ns cs m
   act-prints r block priority buffer out g f = record {
     bench = g .bench;

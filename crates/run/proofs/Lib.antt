@@ -32,7 +32,6 @@ pub mod Readable
 -- The roll's text:
 pub mod RollForm
 pub mod TextLaws
-pub mod LineLaws
 pub mod EventLaws
 pub mod DecimalLaws
 pub mod RollHistory

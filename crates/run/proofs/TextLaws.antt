@@ -11,8 +11,9 @@ use lib.ListN.{length, getD, set, drop, length-append}
 use lib.Seq.{drop-cons, drop-length}
 use Rattle.message.specs.Numbers.{put}
 use Rattle.message.proofs.PartLaws.{put-append, length-put}
+use Rattle.bench.specs.declared.Made.{Made}
 use Rattle.run.specs.Texts.{digits}
-use Rattle.run.specs.RollSteps.{Puts, Remains}
+use Rattle.run.specs.RollSteps.{actedText, Puts}
 
 -- ---- a word, byte by byte
 
@@ -37,6 +38,15 @@ puts-then xs ys at l r m q o f g = record {
   place = g .place ∙ (rw length-append (omega (arith, f .place)));
   text = g .text ∙ rw (f .text, f .place) (sym (put-append l at xs ys));
 }
+
+-- what is said of a case is said of an answer that is that case
+pub puts-by : {A : Type 0} (f : A → List ℕ) (a b : A) (at : ℕ) (l : List ℕ) (r : ℕ) (m : List ℕ) → a ≡ b → Puts (f b) at l r m → Puts (f a) at l r m
+puts-by f a b at l r m e p = rw e p
+
+pub puts-acted :
+    (d : ℕ) (parted : Bool) (a b : Made) (at : ℕ) (l : List ℕ) (r : ℕ) (m : List ℕ) → a ≡ b → Puts (actedText d parted b) at l r m
+    → Puts (actedText d parted a) at l r m
+puts-acted d parted = puts-by (actedText d parted)
 
 module _ (xs ys zs : List ℕ) (at : ℕ) (l : List ℕ) (p : ℕ) (m : List ℕ) (q : ℕ) (o : List ℕ) (r : ℕ) (u : List ℕ) where
   pub puts-three : Puts xs at l p m → Puts ys p m q o → Puts zs q o r u → Puts (xs ++ (ys ++ zs)) at l r u

@@ -41,11 +41,11 @@ takenText (takings.Refused number) = ascii "take" ++ endText (decimal number)
 unfoldable pub standText : ℕ → Bool → List ℕ
 standText d parted = ascii " " ++ (decimal d ++ (markText parted ++ ascii "\n"))
 
-unfoldable pub actedText : Made → ℕ → Bool → List ℕ
-actedText makings.Nothing d parted = ascii "act none 0" ++ standText d parted
-actedText (makings.Log k) d parted = ascii "act log " ++ (decimal k ++ standText d parted)
-actedText (makings.Proposal k) d parted = ascii "act proposal " ++ (decimal k ++ standText d parted)
-actedText (makings.Refused number) d parted = ascii "act" ++ endText (decimal number)
+unfoldable pub actedText : ℕ → Bool → Made → List ℕ
+actedText d parted makings.Nothing = ascii "act none 0" ++ standText d parted
+actedText d parted (makings.Log k) = ascii "act log " ++ (decimal k ++ standText d parted)
+actedText d parted (makings.Proposal k) = ascii "act proposal " ++ (decimal k ++ standText d parted)
+actedText d parted (makings.Refused number) = ascii "act" ++ endText (decimal number)
 
 -- ---- what is written
 

@@ -137,7 +137,7 @@ pub(crate) fn put_acted(
     parted: bool,
 ) -> usize
     requires { ⌜ at + lineRoom ≤ length (now text) ⌝ }
-    ensures { λ r. ⌜ Puts (actedText answer decided parted) at (now (text .entry)) r (now (text .exit)) ⌝ }
+    ensures { λ r. ⌜ Puts (actedText decided parted answer) at (now (text .entry)) r (now (text .exit)) ⌝ }
     ensures { λ r. ⌜ r ≤ at + lineRoom ⌝ }
 {
     match answer {

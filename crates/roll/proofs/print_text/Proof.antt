@@ -6,10 +6,6 @@ use lib.Seq.{length-take-le}
 use borrow.Author.Needs.{needs}
 use Rattle.roll.proofs.print_text.Statement.{statement}
 use Rattle.roll.proofs.print_text.Tie as tie
-use Rattle.roll.proofs.print_text.Reads as reads
-use Rattle.roll.proofs.print_text.Lts as lts
-use Rattle.io.proofs.write_all.Reads as write-all-reads
-use Rattle.run.proofs.cervakho_roll_text.Reads as cervakho-roll-text-reads
 
 counts : (j : ℕ) (l : List ℕ) → j ≤ length l → j ≡ length (take j l)
 counts j l h = sym (length-take-le j l h)

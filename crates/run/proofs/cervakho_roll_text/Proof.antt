@@ -4,11 +4,6 @@ use native.Mathlib.Omega.{arith}
 use borrow.Author.Needs.{needs}
 use Rattle.run.proofs.cervakho_roll_text.Statement.{statement}
 use Rattle.run.proofs.cervakho_roll_text.Tie as tie
-use Rattle.run.proofs.cervakho_roll_text.Reads as reads
-use Rattle.run.proofs.cervakho_roll_text.Lts as lts
-use Rattle.run.proofs.events.print_roll.Reads as print-roll-reads
-use Rattle.run.proofs.form.is_misshapen.Reads as is-misshapen-reads
-use Rattle.run.proofs.texts.put_word.Reads as put-word-reads
 
 returns : tie.Need-returns
 returns c = search text-scant

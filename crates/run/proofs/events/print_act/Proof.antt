@@ -2,10 +2,6 @@ use Rattle.run.proofs.EventLaws.{act-prints}
 use borrow.Author.Needs.{needs}
 use Rattle.run.proofs.events.print_act.Statement.{statement}
 use Rattle.run.proofs.events.print_act.Tie as tie
-use Rattle.run.proofs.events.print_act.Reads as reads
-use Rattle.run.proofs.events.print_act.Lts as lts
-use Rattle.bench.proofs.act.Reads as act-reads
-use Rattle.run.proofs.lines.put_acted.Reads as put-acted-reads
 
 slice-aggregate-act : tie.Need-slice-aggregate-act
 slice-aggregate-act c = search needs

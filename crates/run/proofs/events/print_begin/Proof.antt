@@ -2,10 +2,6 @@ use Rattle.run.proofs.EventLaws.{begin-prints}
 use borrow.Author.Needs.{needs}
 use Rattle.run.proofs.events.print_begin.Statement.{statement}
 use Rattle.run.proofs.events.print_begin.Tie as tie
-use Rattle.run.proofs.events.print_begin.Reads as reads
-use Rattle.run.proofs.events.print_begin.Lts as lts
-use Rattle.bench.proofs.begin.Reads as begin-reads
-use Rattle.run.proofs.lines.put_begun.Reads as put-begun-reads
 
 begin-requires : tie.Need-begin-requires
 begin-requires c κs = search needs

@@ -2,15 +2,6 @@ use Rattle.run.proofs.EventLaws.{event-begin, event-receive, event-act}
 use borrow.Author.Needs.{needs}
 use Rattle.run.proofs.events.print_event.Statement.{statement}
 use Rattle.run.proofs.events.print_event.Tie as tie
-use Rattle.run.proofs.events.print_event.Reads as reads
-use Rattle.run.proofs.events.print_event.Lts as lts
-use Rattle.message.proofs.number.u16_in.Reads as u16-in-reads
-use Rattle.message.proofs.number.u32_in.Reads as u32-in-reads
-use Rattle.message.proofs.number.u64_in.Reads as u64-in-reads
-use Rattle.run.proofs.events.print_act.Reads as print-act-reads
-use Rattle.run.proofs.events.print_begin.Reads as print-begin-reads
-use Rattle.run.proofs.events.print_receive.Reads as print-receive-reads
-use Rattle.run.proofs.form.length_at.Reads as length-at-reads
 
 mul-kind : tie.Need-mul-kind
 mul-kind c = search needs

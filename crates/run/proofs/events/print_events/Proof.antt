@@ -13,11 +13,6 @@ use Rattle.run.specs.RollSteps.{Remains}
 use borrow.Author.Needs.{needs}
 use Rattle.run.proofs.events.print_events.Statement.{statement}
 use Rattle.run.proofs.events.print_events.Tie as tie
-use Rattle.run.proofs.events.print_events.Reads as reads
-use Rattle.run.proofs.events.print_events.Lts as lts
-use Rattle.run.proofs.events.print_event.Reads as print-event-reads
-use Rattle.run.proofs.form.events_of.Reads as events-of-reads
-use Rattle.run.proofs.form.length_at.Reads as length-at-reads
 
 abbrev Inv-loop : tie.InvT-loop
 Inv-loop names₀ counts₀ roll text₀ at events body₀ b₀ p₀ i₀ names counts text body b p i = (i ≤ events) × (events ≤ 1024) × (body ≤ 4100 + 65536 * i) × (length names ≡ length names₀) × (length counts ≡ length counts₀) × (p ≤ 48 * (i + 1)) × (length text ≡ length text₀) × (misfits roll i body (events - i) ≡ false) × Remains (put text₀ at (linesOf (stateOf b₀ names₀ counts₀) (callsOf roll))) (at + length (linesOf (stateOf b₀ names₀ counts₀) (callsOf roll))) text p (linesOf (stateOf b names counts) (callsFrom roll i body (events - i)))

@@ -2,10 +2,6 @@ use Rattle.run.proofs.EventLaws.{receive-prints}
 use borrow.Author.Needs.{needs}
 use Rattle.run.proofs.events.print_receive.Statement.{statement}
 use Rattle.run.proofs.events.print_receive.Tie as tie
-use Rattle.run.proofs.events.print_receive.Reads as reads
-use Rattle.run.proofs.events.print_receive.Lts as lts
-use Rattle.bench.proofs.receive.Reads as receive-reads
-use Rattle.run.proofs.lines.put_taken.Reads as put-taken-reads
 
 receive-requires : tie.Need-receive-requires
 receive-requires c κs = search needs

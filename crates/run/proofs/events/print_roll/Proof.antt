@@ -3,12 +3,6 @@ use native.Mathlib.Omega.{arith}
 use borrow.Author.Needs.{needs}
 use Rattle.run.proofs.events.print_roll.Statement.{statement}
 use Rattle.run.proofs.events.print_roll.Tie as tie
-use Rattle.run.proofs.events.print_roll.Reads as reads
-use Rattle.run.proofs.events.print_roll.Lts as lts
-use Rattle.bench.proofs.open.Reads as open-reads
-use Rattle.run.proofs.events.print_events.Reads as print-events-reads
-use Rattle.run.proofs.lines.put_first_line.Reads as put-first-line-reads
-use Rattle.run.proofs.texts.put_word.Reads as put-word-reads
 
 shared-slice-read-n : tie.Need-shared-slice-read-n
 shared-slice-read-n c = search needs

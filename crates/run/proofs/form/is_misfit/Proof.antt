@@ -6,10 +6,6 @@ use Rattle.run.specs.Roll.{bodiesPlace, eventsOf, misfits}
 use borrow.Author.Needs.{needs}
 use Rattle.run.proofs.form.is_misfit.Statement.{statement}
 use Rattle.run.proofs.form.is_misfit.Tie as tie
-use Rattle.run.proofs.form.is_misfit.Reads as reads
-use Rattle.run.proofs.form.is_misfit.Lts as lts
-use Rattle.run.proofs.form.is_wrong_mark.Reads as is-wrong-mark-reads
-use Rattle.run.proofs.form.length_at.Reads as length-at-reads
 
 abbrev Inv-loop : tie.InvT-loop
 Inv-loop roll events at₀ i₀ at i = (i ≤ events) × (at ≤ 4100 + 65536 * i) × (misfits roll 0 (bodiesPlace roll) (eventsOf roll) ≡ misfits roll i at (events - i))

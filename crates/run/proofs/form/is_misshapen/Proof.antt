@@ -2,10 +2,6 @@ use Rattle.run.proofs.RollForm.{shape-size, shape-many, shape-scant, sh
 use borrow.Author.Needs.{needs}
 use Rattle.run.proofs.form.is_misshapen.Statement.{statement}
 use Rattle.run.proofs.form.is_misshapen.Tie as tie
-use Rattle.run.proofs.form.is_misshapen.Reads as reads
-use Rattle.run.proofs.form.is_misshapen.Lts as lts
-use Rattle.run.proofs.form.events_of.Reads as events-of-reads
-use Rattle.run.proofs.form.is_misfit.Reads as is-misfit-reads
 
 returns : tie.Need-returns
 returns c = search shape-size

@@ -3,8 +3,6 @@ use Rattle.run.specs.Roll.{rightBody}
 use borrow.Author.Needs.{needs}
 use Rattle.run.proofs.form.is_right_body.Statement.{statement}
 use Rattle.run.proofs.form.is_right_body.Tie as tie
-use Rattle.run.proofs.form.is_right_body.Reads as reads
-use Rattle.run.proofs.form.is_right_body.Lts as lts
 
 returns : tie.Need-returns
 unfolding rightBody

@@ -2,10 +2,6 @@ use Rattle.run.proofs.RollForm.{wrong-mark-is}
 use borrow.Author.Needs.{needs}
 use Rattle.run.proofs.form.is_wrong_mark.Statement.{statement}
 use Rattle.run.proofs.form.is_wrong_mark.Tie as tie
-use Rattle.run.proofs.form.is_wrong_mark.Reads as reads
-use Rattle.run.proofs.form.is_wrong_mark.Lts as lts
-use Rattle.run.proofs.form.is_right_body.Reads as is-right-body-reads
-use Rattle.run.proofs.form.length_at.Reads as length-at-reads
 
 mul-at : tie.Need-mul-at
 mul-at c = search needs

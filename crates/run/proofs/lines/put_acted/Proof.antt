@@ -1,13 +1,9 @@
-use Rattle.run.proofs.LineLaws.{acted-nothing, acted-log, acted-proposal, acted-refused}
+use Rattle.run.proofs.TextLaws.{puts-acted}
+use Rattle.run.specs.RollSteps.{actedText}
 use native.Mathlib.Omega.{arith}
 use borrow.Author.Needs.{needs}
 use Rattle.run.proofs.lines.put_acted.Statement.{statement}
 use Rattle.run.proofs.lines.put_acted.Tie as tie
-use Rattle.run.proofs.lines.put_acted.Reads as reads
-use Rattle.run.proofs.lines.put_acted.Lts as lts
-use Rattle.run.proofs.lines.put_idle.Reads as put-idle-reads
-use Rattle.run.proofs.lines.put_made.Reads as put-made-reads
-use Rattle.run.proofs.lines.put_not_acted.Reads as put-not-acted-reads
 
 enum-told : tie.Need-enum-told
 enum-told c = search needs
@@ -43,25 +39,29 @@ same-length : tie.Need-same-length
 same-length c = search needs
 
 returns : tie.Need-returns
-returns c = (search acted-nothing, omega arith)
+unfolding actedText
+returns c = (search puts-acted, omega arith)
 
 same-length-2 : tie.Need-same-length-2
 same-length-2 c = search needs
 
 returns-2 : tie.Need-returns-2
-returns-2 c = (search acted-log, omega arith)
+unfolding actedText
+returns-2 c = (search puts-acted, omega arith)
 
 same-length-3 : tie.Need-same-length-3
 same-length-3 c = search needs
 
 returns-3 : tie.Need-returns-3
-returns-3 c = (search acted-proposal, omega arith)
+unfolding actedText
+returns-3 c = (search puts-acted, omega arith)
 
 same-length-4 : tie.Need-same-length-4
 same-length-4 c = search needs
 
 returns-4 : tie.Need-returns-4
-returns-4 c = (search acted-refused, omega arith)
+unfolding actedText
+returns-4 c = (search puts-acted, omega arith)
 
 pub put-acted-spec : {M : Type 1} → statement M
 put-acted-spec =

@@ -3,11 +3,6 @@ use native.Mathlib.Omega.{arith}
 use borrow.Author.Needs.{needs}
 use Rattle.run.proofs.lines.put_begun.Statement.{statement}
 use Rattle.run.proofs.lines.put_begun.Tie as tie
-use Rattle.run.proofs.lines.put_begun.Reads as reads
-use Rattle.run.proofs.lines.put_begun.Lts as lts
-use Rattle.run.proofs.lines.put_start.Reads as put-start-reads
-use Rattle.run.proofs.texts.put_decimal.Reads as put-decimal-reads
-use Rattle.run.proofs.texts.put_word.Reads as put-word-reads
 
 slice-aggregate-put-word : tie.Need-slice-aggregate-put-word
 slice-aggregate-put-word c = search needs

@@ -4,10 +4,6 @@ use Rattle.run.specs.RollText.{firstLine}
 use borrow.Author.Needs.{needs}
 use Rattle.run.proofs.lines.put_first_line.Statement.{statement}
 use Rattle.run.proofs.lines.put_first_line.Tie as tie
-use Rattle.run.proofs.lines.put_first_line.Reads as reads
-use Rattle.run.proofs.lines.put_first_line.Lts as lts
-use Rattle.run.proofs.texts.put_decimal.Reads as put-decimal-reads
-use Rattle.run.proofs.texts.put_word.Reads as put-word-reads
 
 slice-aggregate-put-word : tie.Need-slice-aggregate-put-word
 slice-aggregate-put-word c = search needs

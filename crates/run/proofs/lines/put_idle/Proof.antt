@@ -3,10 +3,6 @@ use native.Mathlib.Omega.{arith}
 use borrow.Author.Needs.{needs}
 use Rattle.run.proofs.lines.put_idle.Statement.{statement}
 use Rattle.run.proofs.lines.put_idle.Tie as tie
-use Rattle.run.proofs.lines.put_idle.Reads as reads
-use Rattle.run.proofs.lines.put_idle.Lts as lts
-use Rattle.run.proofs.lines.put_stand.Reads as put-stand-reads
-use Rattle.run.proofs.texts.put_word.Reads as put-word-reads
 
 slice-aggregate-put-word : tie.Need-slice-aggregate-put-word
 slice-aggregate-put-word c = search needs

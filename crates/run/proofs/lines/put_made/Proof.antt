@@ -3,11 +3,6 @@ use native.Mathlib.Omega.{arith}
 use borrow.Author.Needs.{needs}
 use Rattle.run.proofs.lines.put_made.Statement.{statement}
 use Rattle.run.proofs.lines.put_made.Tie as tie
-use Rattle.run.proofs.lines.put_made.Reads as reads
-use Rattle.run.proofs.lines.put_made.Lts as lts
-use Rattle.run.proofs.lines.put_stand.Reads as put-stand-reads
-use Rattle.run.proofs.texts.put_decimal.Reads as put-decimal-reads
-use Rattle.run.proofs.texts.put_word.Reads as put-word-reads
 
 put-word-requires : tie.Need-put-word-requires
 put-word-requires c κs = search needs

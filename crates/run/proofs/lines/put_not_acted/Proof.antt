@@ -3,10 +3,6 @@ use native.Mathlib.Omega.{arith}
 use borrow.Author.Needs.{needs}
 use Rattle.run.proofs.lines.put_not_acted.Statement.{statement}
 use Rattle.run.proofs.lines.put_not_acted.Tie as tie
-use Rattle.run.proofs.lines.put_not_acted.Reads as reads
-use Rattle.run.proofs.lines.put_not_acted.Lts as lts
-use Rattle.run.proofs.lines.put_refusal.Reads as put-refusal-reads
-use Rattle.run.proofs.texts.put_word.Reads as put-word-reads
 
 slice-aggregate-put-word : tie.Need-slice-aggregate-put-word
 slice-aggregate-put-word c = search needs

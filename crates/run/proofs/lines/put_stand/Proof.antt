@@ -4,11 +4,6 @@ use Rattle.run.specs.RollSteps.{standText}
 use borrow.Author.Needs.{needs}
 use Rattle.run.proofs.lines.put_stand.Statement.{statement}
 use Rattle.run.proofs.lines.put_stand.Tie as tie
-use Rattle.run.proofs.lines.put_stand.Reads as reads
-use Rattle.run.proofs.lines.put_stand.Lts as lts
-use Rattle.run.proofs.lines.put_mark.Reads as put-mark-reads
-use Rattle.run.proofs.texts.put_decimal.Reads as put-decimal-reads
-use Rattle.run.proofs.texts.put_word.Reads as put-word-reads
 
 slice-aggregate-put-word : tie.Need-slice-aggregate-put-word
 slice-aggregate-put-word c = search needs

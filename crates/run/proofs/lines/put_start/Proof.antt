@@ -1,12 +1,9 @@
-use Rattle.run.proofs.LineLaws.{start-done, start-refused}
+use Rattle.run.proofs.TextLaws.{puts-by}
+use Rattle.run.specs.RollSteps.{startText}
 use native.Mathlib.Omega.{arith}
 use borrow.Author.Needs.{needs}
 use Rattle.run.proofs.lines.put_start.Statement.{statement}
 use Rattle.run.proofs.lines.put_start.Tie as tie
-use Rattle.run.proofs.lines.put_start.Reads as reads
-use Rattle.run.proofs.lines.put_start.Lts as lts
-use Rattle.run.proofs.lines.put_refusal.Reads as put-refusal-reads
-use Rattle.run.proofs.texts.put_word.Reads as put-word-reads
 
 enum-told : tie.Need-enum-told
 enum-told c = search needs
@@ -27,13 +24,15 @@ same-length : tie.Need-same-length
 same-length c = search needs
 
 returns : tie.Need-returns
-returns c = (search start-done, omega arith)
+unfolding startText
+returns c = (search (puts-by startText), omega arith)
 
 same-length-2 : tie.Need-same-length-2
 same-length-2 c = search needs
 
 returns-2 : tie.Need-returns-2
-returns-2 c = (search start-refused, omega arith)
+unfolding startText
+returns-2 c = (search (puts-by startText), omega arith)
 
 pub put-start-spec : {M : Type 1} → statement M
 put-start-spec =

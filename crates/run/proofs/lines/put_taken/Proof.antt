@@ -1,12 +1,9 @@
-use Rattle.run.proofs.LineLaws.{taken-first, taken-second, taken-known, taken-refused}
+use Rattle.run.proofs.TextLaws.{puts-by}
+use Rattle.run.specs.RollSteps.{takenText}
 use native.Mathlib.Omega.{arith}
 use borrow.Author.Needs.{needs}
 use Rattle.run.proofs.lines.put_taken.Statement.{statement}
 use Rattle.run.proofs.lines.put_taken.Tie as tie
-use Rattle.run.proofs.lines.put_taken.Reads as reads
-use Rattle.run.proofs.lines.put_taken.Lts as lts
-use Rattle.run.proofs.lines.put_not_taken.Reads as put-not-taken-reads
-use Rattle.run.proofs.texts.put_word.Reads as put-word-reads
 
 enum-told : tie.Need-enum-told
 enum-told c = search needs
@@ -45,25 +42,29 @@ same-length : tie.Need-same-length
 same-length c = search needs
 
 returns : tie.Need-returns
-returns c = (search taken-first, omega arith)
+unfolding takenText
+returns c = (search (puts-by takenText), omega arith)
 
 same-length-2 : tie.Need-same-length-2
 same-length-2 c = search needs
 
 returns-2 : tie.Need-returns-2
-returns-2 c = (search taken-second, omega arith)
+unfolding takenText
+returns-2 c = (search (puts-by takenText), omega arith)
 
 same-length-3 : tie.Need-same-length-3
 same-length-3 c = search needs
 
 returns-3 : tie.Need-returns-3
-returns-3 c = (search taken-known, omega arith)
+unfolding takenText
+returns-3 c = (search (puts-by takenText), omega arith)
 
 same-length-4 : tie.Need-same-length-4
 same-length-4 c = search needs
 
 returns-4 : tie.Need-returns-4
-returns-4 c = (search taken-refused, omega arith)
+unfolding takenText
+returns-4 c = (search (puts-by takenText), omega arith)
 
 pub put-taken-spec : {M : Type 1} → statement M
 put-taken-spec =

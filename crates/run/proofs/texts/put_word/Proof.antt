@@ -7,8 +7,6 @@ use Rattle.message.specs.Numbers.{put}
 use borrow.Author.Needs.{needs}
 use Rattle.run.proofs.texts.put_word.Statement.{statement}
 use Rattle.run.proofs.texts.put_word.Tie as tie
-use Rattle.run.proofs.texts.put_word.Reads as reads
-use Rattle.run.proofs.texts.put_word.Lts as lts
 
 abbrev Inv-loop : tie.InvT-loop
 Inv-loop text₀ at word p₀ i₀ text p i = (i ≤ length word) × (p ≡ at + i) × (at + length word ≤ length text) × (length text ≡ length text₀) × (put text₀ at word ≡ put text p (drop i word))
