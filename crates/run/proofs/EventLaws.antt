@@ -1,20 +1,19 @@
 -- A call made and its line written; the events one after the other; the whole text. Assumes nothing.
-use Prim.Native.Nat.{ℕ, zero, suc, _+_, _-_, _*_, _≤_, _<_}
+use Prim.Native.Nat.{ℕ, suc, _+_, _-_, _*_, _≤_, _<_}
 use native.Mathlib.Omega.{arith}
 use mathlib.Core.Bool.{Bool, true, false}
-use mathlib.Core.List.{List, [], _∷_, _++_, append-assoc}
+use mathlib.Core.List.{List, _∷_, _++_, append-assoc}
 use mathlib.Core.Path.{_≡_, refl, sym, ap, _∙_}
 use borrow.Author.Tests.{eq-eqb, ne-eqb, lt-ltb, le-ltb}
-use lib.Dec.{eqb, ltb}
-use lib.ListN.{length, getD, take, drop, length-append}
+use lib.ListN.{length, take, drop, length-append}
 use Rattle.message.specs.Numbers.{put, numberIn}
 use Rattle.message.specs.Logs.{Block}
 use Rattle.message.proofs.PartLaws.{put-append, length-put}
 use Rattle.message.proofs.Acceptance.{length-blocks}
 use Rattle.bench.specs.Layout.{Lent}
-use Rattle.bench.specs.Calls.{Call, begin, receive, act, Reply, refused, done, State, Opening, Step}
+use Rattle.bench.specs.Calls.{Call, begin, receive, act, refused, done, State, Opening, Step}
 use Rattle.bench.specs.ByRecord.{openOf, beginOf, receiveOf, actOf}
-use Rattle.bench.specs.Answers.{lentAs, stateOf, startReply, takenReply, madeReply, OpenGives, BeginGives, ReceiveGives, ActGives}
+use Rattle.bench.specs.Answers.{stateOf, startReply, takenReply, madeReply, OpenGives, BeginGives, ReceiveGives, ActGives}
 use Rattle.bench.specs.declared.Bench.{Bench}
 use Rattle.bench.specs.declared.Start.{Start}
 use Rattle.bench.specs.declared.Start.the-variants as starts
@@ -27,8 +26,8 @@ use Rattle.bench.specs.declared.Received.{Received}
 use Rattle.bench.specs.declared.Acted.{Acted}
 use Rattle.run.specs.declared.Printed.{Printed}
 use Rattle.run.specs.Texts.{ascii, decimal}
-use Rattle.run.specs.Roll.{mostRoll, misshapen, eventsOf, benchesOf, ownOf, kindAt, lengthAt, bodiesPlace, beginKind, receiveKind, offeredAt, freshBuffer, callAt, callsFrom, callsOf}
-use Rattle.run.specs.RollText.{wordText, madeText, markText, replyText, lineFor, lineOf, stepOf, linesOf, noRollText, firstLine, openedText, freshLists, textOf, WritesText}
+use Rattle.run.specs.Roll.{mostRoll, misshapen, eventsOf, benchesOf, ownOf, kindAt, lengthAt, beginKind, receiveKind, freshBuffer, callAt, callsFrom, callsOf}
+use Rattle.run.specs.RollText.{madeText, markText, replyText, lineFor, lineOf, stepOf, linesOf, noRollText, firstLine, openedText, freshLists, textOf, WritesText}
 use Rattle.run.specs.RollSteps.{lineRoom, endText, startText, takenText, standText, actedText, Puts, Remains, Prints}
 use Rattle.run.proofs.TextLaws.{puts-then}
 

@@ -7,7 +7,7 @@ use mathlib.Core.List.{List, [], _∷_, _++_}
 use mathlib.Core.Bool.{true, false}
 use mathlib.Core.Path.{_≡_, refl, sym, ap, _∙_}
 use lib.Dec.{eqb, leb}
-use lib.ListN.{length, getD, take, drop, replicate, length-take, length-drop, length-replicate}
+use lib.ListN.{length, take, drop, replicate, length-take, length-drop, length-replicate}
 use lib.Seq.{getD-drop}
 use Rattle.message.specs.Numbers.{AllBelow, numberIn}
 use Rattle.message.proofs.TestLaws.{either}
@@ -16,13 +16,12 @@ use Rattle.message.proofs.ListedLaws.{length-at}
 use Rattle.bench.specs.Layout.{mostBytes, decidedPlace, leastLent}
 use Rattle.bench.specs.Calls.{Call, Answer, Reply, refused, done, took, acted, State, Opening, Typed, AllTyped}
 use Rattle.bench.specs.Acts.{Stand}
-use Rattle.bench.specs.History.{History, fresh, step, answer, standIn}
+use Rattle.bench.specs.History.{History, fresh, step, standIn}
 use Rattle.bench.specs.ByRecord.{openOf, standing}
-use Rattle.run.specs.Demand.{byValue, call, OpenedAs}
+use Rattle.run.specs.Demand.{byValue, OpenedAs}
 use Rattle.run.specs.TheBench.{theBench}
 use Rattle.run.specs.Roll.{benchesOf, ownOf, eventsOf, bodiesPlace, misshapen, markPlace, kindAt, lengthAt, beginKind, receiveKind, callAt, callsFrom, callsOf}
 use Rattle.run.specs.RollText.{stepOf, linesOf, linesBy, firstLine, isDone, openedText, freshLists, textOf}
-use Rattle.run.proofs.Reduce.{Simulation}
 use Rattle.run.proofs.TheDemand.{bench-simulates}
 
 -- D is the length of the log that stands

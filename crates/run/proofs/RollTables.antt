@@ -8,7 +8,7 @@ use mathlib.Core.Option.{some, none}
 use mathlib.Core.Path.{_≡_, refl}
 use Rattle.message.specs.Choice as choice
 use Rattle.message.specs.Numbers.{part, put, numberAt, numberIn, numbersAt, bytesFor, bytesForEach}
-use Rattle.message.specs.Logs.{Block, Log, isPrefix, sameLog, inStep, namesOf, countsOf}
+use Rattle.message.specs.Logs.{Log, isPrefix, sameLog, inStep, namesOf, countsOf}
 use Rattle.message.specs.Message.{logMessage, proposalMessage, messageBytes, bytesOf, malformed, readOf, meaningIn}
 use Rattle.message.specs.Store.{logAt}
 use Rattle.agreement.specs.Sets.{weigh}

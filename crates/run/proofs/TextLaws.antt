@@ -1,16 +1,15 @@
 -- Writing words and numbers into the text. Assumes nothing.
-use Prim.Native.Nat.{ℕ, zero, suc, _+_, _-_, _*_, _/_, _%_, _≤_, _<_}
+use Prim.Native.Nat.{ℕ, suc, _+_, _-_, _/_, _%_, _≤_, _<_}
 use native.Mathlib.Numerals.{add-one}
 use native.Mathlib.Omega.{arith}
-use mathlib.Core.Bool.{Bool, true, false}
-use mathlib.Core.List.{List, [], _∷_, _++_, append-assoc}
+use mathlib.Core.Bool.{Bool}
+use mathlib.Core.List.{List, [], _∷_, _++_}
 use mathlib.Core.Path.{_≡_, refl, sym, ap, _∙_}
 use borrow.Author.Tests.{lt-ltb, le-ltb}
-use lib.Dec.{ltb}
 use lib.ListN.{length, getD, set, drop, length-append}
 use lib.Seq.{drop-cons, drop-length}
 use Rattle.message.specs.Numbers.{put}
-use Rattle.message.proofs.PartLaws.{put-append, length-put}
+use Rattle.message.proofs.PartLaws.{put-append}
 use Rattle.bench.specs.declared.Made.{Made}
 use Rattle.run.specs.Texts.{digits}
 use Rattle.run.specs.RollSteps.{actedText, Puts}

@@ -1,6 +1,5 @@
 use Rattle.run.proofs.EventLaws.{text-scant, text-none, text-whole}
 use Rattle.run.proofs.RollForm.{shaped}
-use native.Mathlib.Omega.{arith}
 use borrow.Author.Needs.{needs}
 use Rattle.run.proofs.cervakho_roll_text.Statement.{statement}
 use Rattle.run.proofs.cervakho_roll_text.Tie as tie

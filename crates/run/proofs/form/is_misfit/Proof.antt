@@ -1,5 +1,4 @@
 use Rattle.run.proofs.RollForm.{marks-start, mark-wrong, mark-right, marks-end}
-use native.Mathlib.Omega.{arith}
 use mathlib.Core.Path.{_≡_}
 use Prim.Native.Nat.{_+_, _-_, _*_, _≤_}
 use Rattle.run.specs.Roll.{bodiesPlace, eventsOf, misfits}

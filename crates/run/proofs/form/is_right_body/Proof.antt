@@ -1,6 +1,5 @@
 use mathlib.Core.Path.{refl}
 use Rattle.run.specs.Roll.{rightBody}
-use borrow.Author.Needs.{needs}
 use Rattle.run.proofs.form.is_right_body.Statement.{statement}
 use Rattle.run.proofs.form.is_right_body.Tie as tie
 
