@@ -24,11 +24,11 @@ use Rattle.bench.specs.declared.Made.the-variants as makings
 use Rattle.bench.specs.declared.Started.{Started}
 use Rattle.bench.specs.declared.Received.{Received}
 use Rattle.bench.specs.declared.Acted.{Acted}
-use Rattle.run.specs.declared.Printed.{Printed}
+use Rattle.run.specs.declared.Offer.{Offer}
 use Rattle.run.specs.Texts.{ascii, decimal}
 use Rattle.run.specs.Roll.{mostRoll, misshapen, eventsOf, benchesOf, ownOf, kindAt, lengthAt, beginKind, receiveKind, freshBuffer, callAt, callsFrom, callsOf}
 use Rattle.run.specs.RollText.{madeText, markText, replyText, lineFor, lineOf, stepOf, linesOf, noRollText, firstLine, openedText, freshLists, textOf, WritesText}
-use Rattle.run.specs.RollSteps.{lineRoom, endText, startText, takenText, standText, actedText, Puts, Remains, Prints}
+use Rattle.run.specs.RollSteps.{lineRoom, endText, startText, takenText, standText, actedText, offerAt, Puts, Remains, Prints}
 use Rattle.run.proofs.TextLaws.{puts-then}
 
 -- ---- the line of a call, by the code's answer
@@ -64,61 +64,61 @@ acted-line (makings.Refused k) t block priority buffer out e = rw (← e)
 
 -- ---- a call made, and its line written
 
-module _ (t : Step) (ns cs : List ℕ) (at : ℕ) (l : List ℕ) (p : ℕ) (m : List ℕ) (short : p ≤ at + lineRoom) where
-  pub begin-prints : (r : Started) (beat : ℕ) → BeginGives t r ns cs → Puts (ascii "begin " ++ (decimal beat ++ startText (r .answer))) at l p m
-      → Prints (begin beat) t at l (record { bench = r .bench; at = p }) ns cs m
+module _ (t : Step) (ns cs : List ℕ) (at : ℕ) (l : List ℕ) (p : ℕ) (m : List ℕ) where
+  begin-prints : (r : Started) (beat : ℕ) → BeginGives t r ns cs → Puts (ascii "begin " ++ (decimal beat ++ startText (r .answer))) at l p m
+      → Prints (begin beat) t at l (r .bench) p ns cs m
   begin-prints r beat g f = record {
     bench = g .bench;
     nameList = g .nameList;
     countList = g .countList;
     line = rw (← start-line (r .answer) t beat (g .answered)) f;
-    short = short;
   }
 
-  pub receive-prints : (r : Received) (bytes : List ℕ) → ReceiveGives t r ns cs → Puts (takenText (r .answer)) at l p m
-      → Prints (receive bytes) t at l (record { bench = r .bench; at = p }) ns cs m
+  receive-prints : (r : Received) (bytes : List ℕ) → ReceiveGives t r ns cs → Puts (takenText (r .answer)) at l p m
+      → Prints (receive bytes) t at l (r .bench) p ns cs m
   receive-prints r bytes g f = record {
     bench = g .bench;
     nameList = g .nameList;
     countList = g .countList;
     line = rw (← taken-line (r .answer) t bytes (g .answered)) f;
-    short = short;
   }
 
-  pub act-prints : (r : Acted) (block : Block) (priority : ℕ) (buffer out : List ℕ) → ActGives t r ns cs out
+  act-prints : (r : Acted) (block : Block) (priority : ℕ) (buffer out : List ℕ) → ActGives t r ns cs out
       → Puts (actedText (r .bench .decided) (r .bench .parted) (r .answer)) at l p m
-      → Prints (act block priority buffer) t at l (record { bench = r .bench; at = p }) ns cs m
+      → Prints (act block priority buffer) t at l (r .bench) p ns cs m
   act-prints r block priority buffer out g f = record {
     bench = g .bench;
     nameList = g .nameList;
     countList = g .countList;
     line = rw (← acted-line (r .answer) t block priority buffer out (g .answered)) (rw (g .bench) at f);
-    short = short;
   }
 
 -- ---- event i, by its kind
 
-module _ (s : List ℕ) (i a : ℕ) (x : State) (at : ℕ) (l : List ℕ) (r : Printed) (ns cs m : List ℕ) where
-  pub event-begin : (beat : ℕ) → kindAt s i ≡ beginKind → beat ≡ numberIn 4 s a → Prints (begin beat) (beginOf x beat) at l r ns cs m
-      → Prints (callAt s i a) (stepOf x (callAt s i a)) at l r ns cs m
+pub offer-is : (s : List ℕ) (a n p c : ℕ) → n ≡ numberIn 8 s a → p ≡ numberIn 8 s (a + 8) → c ≡ numberIn 2 s (a + 16)
+    → record { name = n; priority = p; count = c } ≡ offerAt s a
+unfolding offerAt
+offer-is s a n p c e f g = rw (e, f, g)
+
+module _ (s : List ℕ) (i a : ℕ) (x : State) (at : ℕ) (l : List ℕ) (b : Bench) (p : ℕ) (ns cs m : List ℕ) where
+  event-begin : (beat : ℕ) → kindAt s i ≡ beginKind → beat ≡ numberIn 4 s a → Prints (begin beat) (beginOf x beat) at l b p ns cs m
+      → Prints (callAt s i a) (stepOf x (callAt s i a)) at l b p ns cs m
   unfolding callAt
   event-begin beat k e f = rw (eq-eqb (kindAt s i) beginKind k, ← e) f
 
-  pub event-receive : (k end : ℕ) → (kindAt s i ≡ beginKind → ⊥) → kindAt s i ≡ receiveKind → k ≡ lengthAt s i → end ≡ a + k
-      → Prints (receive (take (end - a) (drop a s))) (receiveOf x (take (end - a) (drop a s))) at l r ns cs m
-      → Prints (callAt s i a) (stepOf x (callAt s i a)) at l r ns cs m
+  event-receive : (k : ℕ) → (kindAt s i ≡ beginKind → ⊥) → kindAt s i ≡ receiveKind → k ≡ lengthAt s i
+      → Prints (receive (take (a + k - a) (drop a s))) (receiveOf x (take (a + k - a) (drop a s))) at l b p ns cs m
+      → Prints (callAt s i a) (stepOf x (callAt s i a)) at l b p ns cs m
   unfolding callAt
-  event-receive k end u v e q f =
-      let n : end - a ≡ lengthAt s i = omega arith in
+  event-receive k u v e f =
+      let n : a + k - a ≡ lengthAt s i = omega arith in
       rw (ne-eqb (kindAt s i) beginKind u, eq-eqb (kindAt s i) receiveKind v) (rw n at f)
 
-  pub event-act : (name count priority : ℕ) → (kindAt s i ≡ beginKind → ⊥) → (kindAt s i ≡ receiveKind → ⊥) → name ≡ numberIn 8 s a
-      → priority ≡ numberIn 8 s (a + 8) → count ≡ numberIn 2 s (a + 16)
-      → Prints (act (record { name = name; count = count }) priority freshBuffer) (actOf x (record { name = name; count = count }) priority freshBuffer) at l r ns cs m
-      → Prints (callAt s i a) (stepOf x (callAt s i a)) at l r ns cs m
-  unfolding callAt
-  event-act name count priority u v e q w f =
-      rw (ne-eqb (kindAt s i) beginKind u, ne-eqb (kindAt s i) receiveKind v, ← e, ← q, ← w) f
+  event-act : (o : Offer) → (kindAt s i ≡ beginKind → ⊥) → (kindAt s i ≡ receiveKind → ⊥) → o ≡ offerAt s a
+      → Prints (act (record { name = o .name; count = o .count }) (o .priority) freshBuffer) (actOf x (record { name = o .name; count = o .count }) (o .priority) freshBuffer) at l b p ns cs m
+      → Prints (callAt s i a) (stepOf x (callAt s i a)) at l b p ns cs m
+  unfolding callAt offerAt
+  event-act o u v e f = rw (ne-eqb (kindAt s i) beginKind u, ne-eqb (kindAt s i) receiveKind v) (rw e at f)
 
 -- ---- the events, one after the other
 
@@ -150,19 +150,46 @@ remains-next z r l p xs ys q m f g = record {
 state-is : (b : Bench) (ns cs : List ℕ) (y : State) → b ≡ y .bench → ns ≡ y .lent .names → cs ≡ y .lent .counts → stateOf b ns cs ≡ y
 state-is b ns cs y e f g = rw (e, f, g)
 
-module _ (z : List ℕ) (end : ℕ) (l : List ℕ) (p : ℕ) (s : List ℕ) (i a e : ℕ) (b : Bench) (ns cs : List ℕ) where
-  pub lines-next : (r : Printed) (ns′ cs′ m : List ℕ) (k : ℕ) → Remains z end l p (linesOf (stateOf b ns cs) (callsFrom s i a (e - i))) → i < e
-      → Prints (callAt s i a) (stepOf (stateOf b ns cs) (callAt s i a)) p l r ns′ cs′ m → k ≡ lengthAt s i
-      → Remains z end m (r .at) (linesOf (stateOf (r .bench) ns′ cs′) (callsFrom s (i + 1) (a + k) (e - (i + 1))))
-  lines-next r ns′ cs′ m k f h g q =
+module _ (z : List ℕ) (end : ℕ) (l : List ℕ) (p : ℕ) (s : List ℕ) (i a e : ℕ) (b : Bench) (ns cs : List ℕ)
+    (left : Remains z end l p (linesOf (stateOf b ns cs) (callsFrom s i a (e - i)))) (more : i < e) (k : ℕ) (long : k ≡ lengthAt s i)
+    (ns′ cs′ m : List ℕ) (q : ℕ) where
+  lines-next : (b′ : Bench) → Prints (callAt s i a) (stepOf (stateOf b ns cs) (callAt s i a)) p l b′ q ns′ cs′ m
+      → Remains z end m q (linesOf (stateOf b′ ns′ cs′) (callsFrom s (i + 1) (a + k) (e - (i + 1))))
+  lines-next b′ g =
       let n : e - i - 1 ≡ e - (i + 1) = omega arith in
       let c = callAt s i a in
       let rest = callsFrom s (i + 1) (a + lengthAt s i) (e - (i + 1)) in
       let t = stepOf (stateOf b ns cs) c in
       let u : linesOf (stateOf b ns cs) (callsFrom s i a (e - i)) ≡ lineOf c t ++ linesOf (t .held) rest = rw (calls-step s i a (e - i) (omega arith), n) (lines-step (stateOf b ns cs) c rest) in
-      let v = remains-next z end l p (lineOf c t) (linesOf (t .held) rest) (r .at) m (rw u at f) (g .line) in
-      let held = state-is (r .bench) ns′ cs′ (t .held) (g .bench) (g .nameList) (g .countList) in
-      rw (q, held) v
+      let v = remains-next z end l p (lineOf c t) (linesOf (t .held) rest) q m (rw u at left) (g .line) in
+      let held = state-is b′ ns′ cs′ (t .held) (g .bench) (g .nameList) (g .countList) in
+      rw (long, held) v
+
+  pub begin-next : (r : Started) (beat : ℕ) → kindAt s i ≡ beginKind → beat ≡ numberIn 4 s a → BeginGives (beginOf (stateOf b ns cs) beat) r ns′ cs′
+      → Puts (ascii "begin " ++ (decimal beat ++ startText (r .answer))) p l q m
+      → Remains z end m q (linesOf (stateOf (r .bench) ns′ cs′) (callsFrom s (i + 1) (a + k) (e - (i + 1))))
+  begin-next r beat u v g f =
+      let x = stateOf b ns cs in
+      lines-next (r .bench) (event-begin s i a x p l (r .bench) q ns′ cs′ m beat u v (begin-prints (beginOf x beat) ns′ cs′ p l q m r beat g f))
+
+  pub receive-next : (r : Received) → (kindAt s i ≡ beginKind → ⊥) → kindAt s i ≡ receiveKind
+      → ReceiveGives (receiveOf (stateOf b ns cs) (take (a + k - a) (drop a s))) r ns′ cs′ → Puts (takenText (r .answer)) p l q m
+      → Remains z end m q (linesOf (stateOf (r .bench) ns′ cs′) (callsFrom s (i + 1) (a + k) (e - (i + 1))))
+  receive-next r u v g f =
+      let x = stateOf b ns cs in
+      let bytes = take (a + k - a) (drop a s) in
+      lines-next (r .bench) (event-receive s i a x p l (r .bench) q ns′ cs′ m k u v long (receive-prints (receiveOf x bytes) ns′ cs′ p l q m r bytes g f))
+
+  pub act-next : (r : Acted) (o : Offer) (out : List ℕ) → (kindAt s i ≡ beginKind → ⊥) → (kindAt s i ≡ receiveKind → ⊥) → o ≡ offerAt s a
+      → ActGives (actOf (stateOf b ns cs) (record { name = o .name; count = o .count }) (o .priority) freshBuffer) r ns′ cs′ out
+      → Puts (actedText (r .bench .decided) (r .bench .parted) (r .answer)) p l q m
+      → Remains z end m q (linesOf (stateOf (r .bench) ns′ cs′) (callsFrom s (i + 1) (a + k) (e - (i + 1))))
+  act-next r o out u v w g f =
+      let x = stateOf b ns cs in
+      let block : Block = record { name = o .name; count = o .count } in
+      lines-next (r .bench)
+      (event-act s i a x p l (r .bench) q ns′ cs′ m o u v w
+      (act-prints (actOf x block (o .priority) freshBuffer) ns′ cs′ p l q m r block (o .priority) freshBuffer out g f))
 
 -- ---- the whole text
 

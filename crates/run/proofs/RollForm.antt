@@ -9,7 +9,7 @@ use lib.Dec.{eqb, ltb}
 use lib.ListN.{length}
 use Rattle.message.proofs.TestLaws.{either, or-false}
 use Rattle.run.specs.Roll.{mostRoll, mostEvents, sizesLength, markLength, eventsOf, kindAt, zeroAt, lengthAt, bodiesPlace, rightBody, wrongMark, misfits, misshapen}
-use Rattle.run.specs.RollSteps.{Shaped, Placed}
+use Rattle.run.specs.RollSteps.{Shaped}
 
 pub wrong-mark-is : (s : List ℕ) (i k : ℕ) (r : Bool) → k ≡ lengthAt s i → r ≡ rightBody (kindAt s i) k
     → (not (eqb (zeroAt s i) 0) || not r) ≡ wrongMark s i
@@ -87,7 +87,7 @@ module _ (s : List ℕ) where
 pub fit-start : (s : List ℕ) (e : ℕ) → e ≡ eventsOf s → Shaped s → misfits s 0 (4 + 4 * e) (e - 0) ≡ false
 fit-start s e q f = sym (marks-start s e q) ∙ f .fit
 
-module _ (s : List ℕ) (i a e : ℕ) (q : e ≡ eventsOf s) (f : Shaped s) (h : i < e) (inv : misfits s i a (e - i) ≡ false) where
+module _ (s : List ℕ) (i a e : ℕ) (h : i < e) (inv : misfits s i a (e - i) ≡ false) where
   rest : (wrongMark s i || misfits s (i + 1) (a + lengthAt s i) (e - i - 1)) ≡ false
   rest = sym (misfits-step s i a (e - i) (omega arith)) ∙ inv
 
@@ -96,8 +96,8 @@ module _ (s : List ℕ) (i a e : ℕ) (q : e ≡ eventsOf s) (f : Shaped s) (h :
       let n : e - i - 1 ≡ e - (i + 1) = omega arith in
       rw (l, ← n) (or-false (wrongMark s i) (misfits s (i + 1) (a + lengthAt s i) (e - i - 1)) rest .1)
 
-  pub placed : Placed s i a
-  placed =
-      let b = places-grow s (i + 1) (a + lengthAt s i) (e - (i + 1)) (fit-next (lengthAt s i) refl) in
-      let m = places-grow s 0 (bodiesPlace s) (eventsOf s) (f .fit) in
-      record { short = f .short; few = omega (arith, f .few); mark = omega arith; body = b }
+  pub body-fits : (k : ℕ) → k ≡ lengthAt s i → a + k ≤ length s
+  body-fits k l = places-grow s (i + 1) (a + k) (e - (i + 1)) (fit-next k l)
+
+pub mark-fits : (s : List ℕ) (i e : ℕ) → e ≡ eventsOf s → Shaped s → i < e → 4 + 4 * i < length s
+mark-fits s i e q f h = let m = places-grow s 0 (bodiesPlace s) (eventsOf s) (f .fit) in omega arith

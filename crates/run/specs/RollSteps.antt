@@ -4,7 +4,7 @@ use mathlib.Core.Bool.{Bool, false}
 use mathlib.Core.List.{List, _++_}
 use mathlib.Core.Path.{_≡_}
 use lib.ListN.{length}
-use Rattle.message.specs.Numbers.{put}
+use Rattle.message.specs.Numbers.{put, numberIn}
 use Rattle.bench.specs.Calls.{Call, Step}
 use Rattle.bench.specs.declared.Start.{Start}
 use Rattle.bench.specs.declared.Start.the-variants as starts
@@ -12,7 +12,8 @@ use Rattle.bench.specs.declared.Taken.{Taken}
 use Rattle.bench.specs.declared.Taken.the-variants as takings
 use Rattle.bench.specs.declared.Made.{Made}
 use Rattle.bench.specs.declared.Made.the-variants as makings
-use Rattle.run.specs.declared.Printed.{Printed}
+use Rattle.bench.specs.declared.Bench.{Bench}
+use Rattle.run.specs.declared.Offer.{Offer}
 use Rattle.run.specs.Texts.{ascii, decimal}
 use Rattle.run.specs.Roll.{mostRoll, mostEvents, sizesLength, eventsOf, markPlace, lengthAt, bodiesPlace, misfits}
 use Rattle.run.specs.RollText.{markText, lineOf}
@@ -59,13 +60,18 @@ pub record Remains (z : List ℕ) (r : ℕ) (text : List ℕ) (p : ℕ) (xs : Li
   pub place : r ≡ p + length xs
   pub whole : z ≡ put text p xs
 
--- the call was made, and its line written at a place of the text
-pub record Prints (c : Call) (t : Step) (at : ℕ) (before : List ℕ) (r : Printed) (names counts after : List ℕ) : Type 0 where
-  pub bench : r .bench ≡ t .held .bench
+-- the call was made and left the record b, and its line was written at a place of the text, which goes on at r
+pub record Prints (c : Call) (t : Step) (at : ℕ) (before : List ℕ) (b : Bench) (r : ℕ) (names counts after : List ℕ) : Type 0 where
+  pub bench : b ≡ t .held .bench
   pub nameList : names ≡ t .held .lent .names
   pub countList : counts ≡ t .held .lent .counts
-  pub line : Puts (lineOf c t) at before (r .at) after
-  pub short : r .at ≤ at + lineRoom
+  pub line : Puts (lineOf c t) at before r after
+
+-- ---- what is read
+
+-- the body of an Act at place a
+unfoldable pub offerAt : List ℕ → ℕ → Offer
+offerAt s a = record { name = numberIn 8 s a; priority = numberIn 8 s (a + 8); count = numberIn 2 s (a + 16) }
 
 -- ---- what is asked
 
@@ -79,10 +85,3 @@ pub record Shaped (s : List ℕ) : Type 0 where
   pub short : length s ≤ mostRoll
   pub few : eventsOf s ≤ mostEvents
   pub fit : misfits s 0 (bodiesPlace s) (eventsOf s) ≡ false
-
--- the mark of event i and its body, from place a on, lie in the roll
-pub record Placed (s : List ℕ) (i a : ℕ) : Type 0 where
-  pub short : length s ≤ mostRoll
-  pub few : i < mostEvents
-  pub mark : Marked s i
-  pub body : a + lengthAt s i ≤ length s

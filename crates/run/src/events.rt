@@ -1,15 +1,15 @@
 // The events of a roll: each call is made, and its line written.
-ghost use Prim.Native.Nat.{_+_, _≤_};
+ghost use mathlib.Core.Path.{_≡_};
+ghost use Prim.Native.Nat.{_≤_, _<_};
 ghost use lib.ListN.{length};
-ghost use Rattle.bench.specs.Calls.{begin, receive, act};
-ghost use Rattle.bench.specs.ByRecord.{openOf, beginOf, receiveOf, actOf};
+ghost use Rattle.bench.specs.ByRecord.{openOf};
 ghost use Rattle.bench.specs.Answers.{lentAs, stateOf};
-ghost use Rattle.run.specs.Roll.{mostRoll, benchesOf, ownOf, freshBuffer, callAt, callsOf};
-ghost use Rattle.run.specs.RollText.{stepOf, linesOf, openedText};
-ghost use Rattle.run.specs.RollSteps.{lineRoom, Puts, Prints, Shaped, Placed};
+ghost use Rattle.run.specs.Roll.{mostRoll, benchesOf, ownOf, callsOf};
+ghost use Rattle.run.specs.RollText.{linesOf, openedText};
+ghost use Rattle.run.specs.RollSteps.{lineRoom, offerAt, Puts, Shaped};
 use super::BEGIN_KIND;
 use super::MARK_LENGTH;
-use super::Printed;
+use super::Offer;
 use super::RECEIVE_KIND;
 use super::SIZES_LENGTH;
 use super::form::events_of;
@@ -25,102 +25,20 @@ use message::number::u16_in;
 use message::number::u32_in;
 use message::number::u64_in;
 
-fn print_begin(
-    bench: Bench,
-    names: &[u64],
-    counts: &[u16],
-    beat: u32,
-    text: &mut [u8],
-    at: usize,
-) -> Printed
-    requires { ⌜ at + lineRoom ≤ length (now text) ⌝ }
-    ensures { λ r. ⌜ Prints (begin beat) (beginOf (stateOf bench (now (names .entry)) (now (counts .entry))) beat) at (now (text .entry)) r (now (names .exit)) (now (counts .exit)) (now (text .exit)) ⌝ }
+// The body of an Act, which starts at this place.
+fn offer_in(roll: &[u8], at: usize) -> Offer
+    requires { ⌜ at < 4294967296 ⌝ }
+    ensures { λ r. ⌜ r ≡ offerAt (now (roll .entry)) at ⌝ }
 {
-    let started = bench::begin(bench, names, counts, beat);
-    let answer = started.answer;
-    let after = started.bench;
-    let end = put_begun(text, at, beat, answer);
-    Printed {
-        bench: after,
-        at: end,
+    Offer {
+        name: u64_in(roll, at),
+        priority: u64_in(roll, at + 8),
+        count: u16_in(roll, at + 16),
     }
 }
 
-fn print_receive(
-    bench: Bench,
-    names: &mut [u64],
-    counts: &mut [u16],
-    message: &[u8],
-    text: &mut [u8],
-    at: usize,
-) -> Printed
-    requires { ⌜ at + lineRoom ≤ length (now text) ⌝ }
-    ensures { λ r. ⌜ Prints (receive (now (message .entry))) (receiveOf (stateOf bench (now (names .entry)) (now (counts .entry))) (now (message .entry))) at (now (text .entry)) r (now (names .exit)) (now (counts .exit)) (now (text .exit)) ⌝ }
-{
-    let received = bench::receive(bench, names, counts, message);
-    let answer = received.answer;
-    let after = received.bench;
-    let end = put_taken(text, at, answer);
-    Printed {
-        bench: after,
-        at: end,
-    }
-}
-
-fn print_act(
-    bench: Bench,
-    names: &mut [u64],
-    counts: &mut [u16],
-    name: u64,
-    count: u16,
-    priority: u64,
-    text: &mut [u8],
-    at: usize,
-) -> Printed
-    requires { ⌜ at + lineRoom ≤ length (now text) ⌝ }
-    ensures { λ r. ⌜ Prints (act (record { name = name; count = count }) priority freshBuffer) (actOf (stateOf bench (now (names .entry)) (now (counts .entry))) (record { name = name; count = count }) priority freshBuffer) at (now (text .entry)) r (now (names .exit)) (now (counts .exit)) (now (text .exit)) ⌝ }
-{
-    let mut out = [0; 656];
-    let acted = bench::act(bench, names, counts, &mut out, name, count, priority);
-    let answer = acted.answer;
-    let after = acted.bench;
-    let end = put_acted(text, at, answer, after.decided, after.parted);
-    Printed {
-        bench: after,
-        at: end,
-    }
-}
-
-// Event i, whose body starts at place body.
-fn print_event(
-    bench: Bench,
-    names: &mut [u64],
-    counts: &mut [u16],
-    roll: &[u8],
-    i: usize,
-    body: usize,
-    text: &mut [u8],
-    at: usize,
-) -> Printed
-    requires { ⌜ (at + lineRoom ≤ length (now text)) × Placed (now roll) i body ⌝ }
-    ensures { λ r. ⌜ Prints (callAt (now (roll .entry)) i body) (stepOf (stateOf bench (now (names .entry)) (now (counts .entry))) (callAt (now (roll .entry)) i body)) at (now (text .entry)) r (now (names .exit)) (now (counts .exit)) (now (text .exit)) ⌝ }
-{
-    let kind = roll[SIZES_LENGTH + MARK_LENGTH * i];
-    if kind == BEGIN_KIND {
-        let beat = u32_in(roll, body);
-        return print_begin(bench, names, counts, beat, text, at);
-    }
-    if kind == RECEIVE_KIND {
-        let end = body + length_at(roll, i);
-        return print_receive(bench, names, counts, &roll[body..end], text, at);
-    }
-    let name = u64_in(roll, body);
-    let priority = u64_in(roll, body + 8);
-    let count = u16_in(roll, body + 16);
-    print_act(bench, names, counts, name, count, priority, text, at)
-}
-
-// The events, one after the other; where the text ends.
+// The events, one after the other; where the text ends. The calls stand in the loop itself: a function around each would copy the
+// record more often.
 fn print_events(
     bench: Bench,
     names: &mut [u64],
@@ -139,12 +57,37 @@ fn print_events(
     let mut p = at;
     let mut i = 0;
     while i < events {
-        let printed = print_event(b, names, counts, roll, i, body, text, p);
-        let after = printed.bench;
-        b = after;
-        p = printed.at;
+        let kind = roll[SIZES_LENGTH + MARK_LENGTH * i];
+        let from = body;
         body += length_at(roll, i);
         i += 1;
+        if kind == BEGIN_KIND {
+            let beat = u32_in(roll, from);
+            let started = bench::begin(b, names, counts, beat);
+            let answer = started.answer;
+            b = started.bench;
+            p = put_begun(text, p, beat, answer);
+        } else if kind == RECEIVE_KIND {
+            let received = bench::receive(b, names, counts, &roll[from..body]);
+            let answer = received.answer;
+            b = received.bench;
+            p = put_taken(text, p, answer);
+        } else {
+            let offer = offer_in(roll, from);
+            let mut out = [0; 656];
+            let acted = bench::act(
+                b,
+                names,
+                counts,
+                &mut out,
+                offer.name,
+                offer.count,
+                offer.priority,
+            );
+            let answer = acted.answer;
+            b = acted.bench;
+            p = put_acted(text, p, answer, b.decided, b.parted);
+        }
     }
     p
 }

@@ -6,7 +6,6 @@ mod lines;
 mod texts;
 
 ghost use Rattle.run.specs.RollText.{WritesText};
-use bench::Bench;
 use events::print_roll;
 use form::is_misshapen;
 use texts::put_word;
@@ -26,10 +25,11 @@ const RECEIVE_KIND: u8 = 2;
 
 const ACT_KIND: u8 = 3;
 
-// The bench after an event, and where the text goes on.
-pub struct Printed {
-    pub bench: Bench,
-    pub at: usize,
+// The body of an Act: the offered block, and the priority.
+pub struct Offer {
+    pub name: u64,
+    pub priority: u64,
+    pub count: u16,
 }
 
 // The text of a roll, at the front of the lent buffer, and how many bytes it has. A buffer shorter than the longest roll is left as
