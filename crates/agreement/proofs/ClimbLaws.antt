@@ -1,218 +1,183 @@
--- Reading a grade: from the rows of shared lengths to the longest log with the grade. Assumes nothing.
-use Prim.Native.Nat.{ℕ, _+_, _-_, _*_, _≤_, _<_}
+-- Following the majority block by block: one block more, and the end, where no longer log has a majority. Assumes nothing.
+use Prim.Native.Nat.{ℕ, _+_, _*_, _≤_, _<_}
 use native.Mathlib.Decide.{decLe}
 use native.Mathlib.Omega.{arith}
-use mathlib.Core.Bool.{Bool, true, false, _&&_, _||_, and-eq-true-iff}
+use mathlib.Core.Bool.{Bool, true, _&&_, and-assoc, and-eq-true-iff}
 use mathlib.Core.List.{List, []}
 use mathlib.Core.Logic.{inl, inr}
-use mathlib.Core.Option.{Option, none}
 use mathlib.Core.Path.{_≡_, refl, sym, ap, subst, _∙_}
-use borrow.Author.Tests.{leb-true, leb-false, le-ltb, lt-ltb, ltb-true, ltb-false}
-use lib.Dec.{leb, ltb}
+use lib.Dec.{ltb}
 use lib.ListN.{length, getD}
 use Rattle.message.specs.Limits.{mostBlocks}
-use Rattle.message.specs.Choice.{pick}
-use Rattle.message.specs.Logs.{Log, Prefix, isPrefix, sharedLength}
-use Rattle.message.specs.Store.{logAt, within}
-use Rattle.message.proofs.TestLaws.{either, or-false}
-use Rattle.message.proofs.LogLaws.{prefix-length, shared-covers}
+use Rattle.message.specs.Logs.{Block, Log, Prefix, sameBlock, isPrefix}
+use Rattle.message.specs.Store.{logAt}
+use Rattle.message.proofs.LogLaws.{prefix-trans, prefix-length, prefix-same, prefix-shorter, compatible-under, sameBlock-eq, isPrefix-iff}
 use Rattle.message.proofs.ListedLaws.{length-at, log-empty, prefix-at, prefix-there}
-use Rattle.message.proofs.Inside.{shared-inside}
-use Rattle.agreement.specs.Limits.{mostSenders, span, placeOf}
-use Rattle.agreement.specs.Sets.{weigh, ones, count, member}
-use Rattle.agreement.specs.Reading.{Reading, maySupport, supports, Grade, longest}
-use Rattle.agreement.specs.Record.{isSender, lacksRoom, overlong, readingOf}
-use Rattle.agreement.specs.Grades.{gradeAmong, Gives}
-use Rattle.agreement.specs.Steps.{Readable, Counted, Climbing, SharedRow, rowAt, sharing, Highest, Reached, BestSoFar}
-use Rattle.agreement.specs.declared.Agreement.{Agreement}
-use Rattle.agreement.specs.declared.Grade as answer
-use Rattle.agreement.specs.declared.Grade.the-variants.{Longest, Nothing}
-use Rattle.agreement.proofs.SetLaws.{weigh-cong, weigh-none}
-use Rattle.agreement.proofs.ReadingLaws.{grade-supporter}
-use Rattle.agreement.proofs.LongestLaws.{longest-nothing, longest-by-length, record-heard}
-use Rattle.agreement.proofs.FilingLaws.{within-room}
+use Rattle.agreement.specs.Limits.{mostSenders, placeOf}
+use Rattle.agreement.specs.Sets.{ones, count, member}
+use Rattle.agreement.specs.Record.{filedLog}
+use Rattle.agreement.specs.Steps.{SetOf, backing, Majority, nextBlock, narrowed, holding, Voted, Climbing, Following, Climbed}
+use Rattle.agreement.specs.declared.Grade.the-variants.{Longest}
+use Rattle.agreement.proofs.SetLaws.{Meet, weigh-mono, weigh-meet, weigh-some, weigh-cong}
+use Rattle.agreement.proofs.NarrowLaws.{and-true, prefix-one-more}
 
--- l blocks or more, of those that may support; l is not zero, so who may not support has too few
-shares : (may : Bool) (l s : ℕ) → 0 < l → (may && leb l s) ≡ ltb (l - 1) (pick may s 0)
-shares true l s h =
-    either (leb l s) (λ t. t ∙ sym (lt-ltb (l - 1) s (let q = leb-true l s t in omega arith))) (λ t. t ∙ sym (le-ltb (l - 1) s (let q = leb-false l s t in omega arith)))
-shares false l s h = sym (le-ltb (l - 1) 0 (omega arith))
-
-module _ (names counts : List ℕ) (base : ℕ) (g : Agreement) (among : List Bool) where
-  -- what the grade reads
-  abbrev R : Reading
-  R = readingOf names counts base g among
-
+module _ (names counts : List ℕ) (base : ℕ) (lengths : List ℕ) (may : List Bool) (all : ℕ) where
   -- the first l blocks at sender i's place
   abbrev at : ℕ → ℕ → Log
   at i l = logAt names counts (placeOf base i) l
 
-  module _ (ok : Readable names counts base (g .lengths)) where
-    inside : (i : ℕ) → i < mostSenders → within names counts (placeOf base i) (getD (g .lengths) i 0) ≡ true
-    inside i h = within-room names counts base i (getD (g .lengths) i 0) (ok .inNames) (ok .inCounts) h (ok .short i h)
+  -- sender i's log
+  abbrev log : ℕ → Log
+  log i = filedLog names counts base lengths i
 
-    -- who supports a prefix of sender i's log is told by how far the logs are alike
-    supports-row : (i j l : ℕ) → i < mostSenders → j < mostSenders → 0 < l → l ≤ getD (g .lengths) i 0
-        → supports R (at i l) j ≡ ltb (l - 1) (rowAt names counts base (g .lengths) (g .voters) among i j)
-    unfolding supports maySupport
-    supports-row i j l hi hj h k =
-        let e = shared-covers (prefix-at names counts (placeOf base i) l (getD (g .lengths) i 0) k) (R .log j) in
-        let f = length-at names counts (placeOf base i) l in
-        let s = shared-inside names counts (placeOf base i) (getD (g .lengths) i 0) (placeOf base j) (getD (g .lengths) j 0) (inside i hi) (inside j hj) in
-        ap (λ (t : Bool). (member (g .voters) j && member among j) && t) (e ∙ ap (λ (n : ℕ). leb n (sharedLength (R .log i) (R .log j))) f)
-        ∙ shares (member (g .voters) j && member among j) l (sharedLength (R .log i) (R .log j)) h
-        ∙ ap (λ (n : ℕ). ltb (l - 1) (pick (member (g .voters) j && member among j) n 0)) (sym s)
+  abbrev back : Log → ℕ → Bool
+  back = backing names counts base lengths may
 
-    module _ (i : ℕ) (hi : i < mostSenders) (row : List ℕ) (r : SharedRow (rowAt names counts base (g .lengths) (g .voters) among i) mostSenders row) where
-      supporters-row : (l : ℕ) → 0 < l → l ≤ getD (g .lengths) i 0 → weigh mostSenders ones (supports R (at i l)) ≡ sharing row l
-      supporters-row l h k =
-          weigh-cong mostSenders ones (supports R (at i l)) (λ (j : ℕ). ltb (l - 1) (getD row j 0))
-          (λ j hj. supports-row i j l hi hj h k ∙ ap (ltb (l - 1)) (sym (r .at j hj)))
+  abbrev next : ℕ → ℕ → Block
+  next = nextBlock names counts base
 
-      module _ (all : ℕ) (heard : all ≡ count mostSenders (isSender g)) where
-        row-grade : (l : ℕ) → 0 < l → l ≤ getD (g .lengths) i 0 → all < 2 * sharing row l → Grade mostSenders ones R (at i l)
-        unfolding Grade
-        row-grade l h k q = let e = supporters-row l h k in omega arith
+  backs : (L : Log) (j : ℕ) → back L j ≡ true → (member may j ≡ true) × Prefix L (log j)
+  backs L j e = let a = and-eq-true-iff (member may j) (isPrefix L (log j)) .0 e in (a .0, isPrefix-iff L (log j) .0 (a .1))
 
-        grade-row : (l : ℕ) → 0 < l → l ≤ getD (g .lengths) i 0 → Grade mostSenders ones R (at i l) → all < 2 * sharing row l
-        unfolding Grade
-        grade-row l h k q = let e = supporters-row l h k in omega arith
+  -- who backs a log backs its prefixes
+  back-prefix : {K L : Log} → Prefix K L → (j : ℕ) → j < mostSenders → back L j ≡ true → back K j ≡ true
+  back-prefix {K} {L} h j l e =
+      let a = backs L j e in and-eq-true-iff (member may j) (isPrefix K (log j)) .1 (a .0, isPrefix-iff K (log j) .1 (prefix-trans h (a .1)))
 
-  -- ---- one sender's log
+  back-may : (L : Log) (j : ℕ) → j < mostSenders → back L j ≡ true → member may j ≡ true
+  back-may L j l e = backs L j e .0
 
-  -- a prefix of sender i's log is no longer than it
-  no-longer : (i : ℕ) (M : Log) → Prefix M (R .log i) → length M ≤ getD (g .lengths) i 0
-  no-longer i M h = let l = prefix-length h in let e = length-at names counts (placeOf base i) (getD (g .lengths) i 0) in omega arith
+  -- all who may support back the empty log
+  pub back-empty : (j : ℕ) → j < mostSenders → back [] j ≡ member may j
+  unfolding isPrefix
+  back-empty j l = and-true (member may j)
 
-  module _ (all i low : ℕ) (c : Counted names counts base g all) (hi : i < mostSenders) (hl : low ≤ mostBlocks) where
-    pub reach-asks : ((member (g .voters) i && member among i) && ltb low (getD (g .lengths) i 0)) ≡ true → low < getD (g .lengths) i 0
-    reach-asks t = ltb-true low (getD (g .lengths) i 0) (and-eq-true-iff (member (g .voters) i && member among i) (ltb low (getD (g .lengths) i 0)) .0 t .1)
-
-    pub reach-found : (row : List ℕ) (r : ℕ) → SharedRow (rowAt names counts base (g .lengths) (g .voters) among i) mostSenders row
-        → Highest row all low (getD (g .lengths) i 0) r → Reached names counts base g among i low r
-    reach-found row r w h = record {
-      least = h .least;
-      most = let a = h .most in let b = c .readable .short i hi in omega arith;
-      reached = λ over. elim (h .reached) [
-        | inl e ↦ absurd (omega arith)
-        | inr q ↦ row-grade (c .readable) i hi row w all (c .heard) r (omega arith) (h .most) q
-      ];
-      none = λ may M p q. elim (decLe (length M) r) [
-        | yes l ↦ l
-        | no l ↦
-            let n = no-longer i M p in
-            let q′ = subst (λ (L : Log). Grade mostSenders ones R L) (prefix-there names counts (placeOf base i) (getD (g .lengths) i 0) M p) q in
-            let a = grade-row (c .readable) i hi row w all (c .heard) (length M) (omega arith) n q′ in
-            let b = h .above .few (length M) (omega arith) n in
-            absurd (omega arith)
-      ];
-    }
-
-    pub reach-low : ((member (g .voters) i && member among i) && ltb low (getD (g .lengths) i 0)) ≡ false → Reached names counts base g among i low low
-    unfolding maySupport
-    reach-low t = record {
-      least = omega arith;
-      most = hl;
-      reached = λ over. absurd (omega arith);
-      none = λ may M p q.
-          let s : ltb low (getD (g .lengths) i 0) ≡ false = ap (λ (b : Bool). b && ltb low (getD (g .lengths) i 0)) (sym may) ∙ t in
-          let a = ltb-false low (getD (g .lengths) i 0) s in
-          let b = no-longer i M p in
-          omega arith;
-    }
-
-  -- ---- all senders
-
-  pub climb-start : (all : ℕ) → Climbing names counts base g among all → BestSoFar names counts base g among 0 0 0
-  climb-start all c = record {
-    grade = subst (λ (L : Log). Grade mostSenders ones R L) (sym (log-empty names counts (placeOf base 0) 0 (omega arith))) (c .empty);
-    none = λ j h. absurd (omega arith);
+  pub follow-all : Climbing names counts base lengths may all → Following names counts base lengths may all 0 0 may
+  follow-all k = record {
+    at = λ j l. sym (ap (λ (L : Log). back L j) (log-empty names counts (placeOf base 0) 0 (omega arith)) ∙ back-empty j l);
+    enough = k .enough;
   }
 
-  module _ (best who i found : ℕ) (b : BestSoFar names counts base g among best who i) (r : Reached names counts base g among i best found) where
-    -- what holds of those below i and of i holds of those below i + 1
-    upto : (x : ℕ) → best ≤ x → found ≤ x → (j : ℕ) → j < i + 1 → maySupport R j ≡ true → (M : Log) → Prefix M (R .log j) → Grade mostSenders ones R M → length M ≤ x
-    upto x hb hf j h may M p q = elim (decLe i j) [
-      | yes l ↦
-          let e : j ≡ i = omega arith in
-          let a = r .none (ap (maySupport R) (sym e) ∙ may) M (subst (λ (k : ℕ). Prefix M (R .log k)) e p) q in
-          omega arith
-      | no l ↦ let a = b .none j (omega arith) may M p q in omega arith
-    ]
+  module _ (who l : ℕ) (followers : List Bool) (f : Following names counts base lengths may all who l followers) where
+    -- ---- one block more
 
-    pub climb-same : found ≤ best → BestSoFar names counts base g among best who (i + 1)
-    climb-same h = record { grade = b .grade; none = upto best (omega arith) h }
+    -- the followers that go on as c does, where c's log starts as theirs
+    back-next : (c j : ℕ) → at c l ≡ at who l → j < mostSenders → narrowed names counts base lengths followers l (next l c) j ≡ back (at c (l + 1)) j
+    back-next c j e h =
+        let n = ltb l (getD lengths j 0) && sameBlock (next l c) (next l j) in
+        ap (λ (t : Bool). t && n) (f .at j h)
+        ∙ and-assoc (member may j) (isPrefix (at who l) (log j)) n
+        ∙ ap (λ (L : Log). member may j && (isPrefix L (log j) && n)) (sym e)
+        ∙ ap (λ (t : Bool). member may j && t) (sym (prefix-one-more names counts (placeOf base c) (placeOf base j) l (getD lengths j 0)))
 
-    pub climb-more : best < found → BestSoFar names counts base g among found i (i + 1)
-    climb-more h = record { grade = r .reached h; none = upto found (omega arith) (omega arith) }
+    module _ (narrow : List Bool) (n : ℕ) (q : n ≡ count mostSenders (member narrow)) where
+      follow : (c : ℕ) → at c l ≡ at who l → SetOf (narrowed names counts base lengths followers l (next l c)) mostSenders narrow → all < 2 * n
+          → Following names counts base lengths may all c (l + 1) narrow
+      follow c e s h = record { at = λ j k. s .at j k ∙ back-next c j e k; enough = omega arith }
 
-  pub climbed : (best who i : ℕ) → BestSoFar names counts base g among best who i → mostSenders ≤ i → who < mostSenders → best ≤ mostBlocks
-      → Gives (longest mostSenders ones R) names counts base (Longest who best)
-  climbed best who i b h w k = record {
-    log = sym (longest-by-length mostSenders ones R (record-heard mostSenders names counts base g among) (at who best) (b .grade) (λ M q.
-        let s = grade-supporter mostSenders ones R M q in
-        let l = s .below in
-        let a = b .none (s .sender) (omega arith) (s .may) M (s .extends) q in
-        let e = length-at names counts (placeOf base who) best in
-        omega arith));
-    placed = (w, k);
-  }
+      pub follow-same : SetOf (narrowed names counts base lengths followers l (next l who)) mostSenders narrow → all < 2 * n
+          → Following names counts base lengths may all who (l + 1) narrow
+      follow-same = follow who refl
 
-  -- ---- the empty log
+      -- the log of a follower starts as all of them
+      starts : (c : ℕ) → Voted names counts base followers l who c → at c l ≡ at who l
+      starts c v = elim (v .from) [
+        | inl e ↦ ap (λ (i : ℕ). at i l) e
+        | inr m ↦
+            let p = backs (at who l) c (sym (f .at c (v .place)) ∙ m) .1 in
+            sym (prefix-there names counts (placeOf base c) (getD lengths c 0) (at who l) p ∙ ap (at c) (length-at names counts (placeOf base who) l))
+      ]
 
-  -- all who may support support the empty log
-  supports-empty : weigh mostSenders ones (supports R []) ≡ count mostSenders (λ (i : ℕ). member (g .voters) i && member among i)
-  unfolding supports maySupport isPrefix
-  supports-empty =
-      weigh-cong mostSenders ones (supports R []) (λ (i : ℕ). member (g .voters) i && member among i) (λ i h. and-true (member (g .voters) i && member among i))
-    where
-      and-true : (t : Bool) → (t && true) ≡ t
-      and-true true = refl
-      and-true false = refl
+      pub follow-voted : (c : ℕ) → Voted names counts base followers l who c
+          → SetOf (narrowed names counts base lengths followers l (next l c)) mostSenders narrow → all < 2 * n
+          → Following names counts base lengths may all c (l + 1) narrow
+      follow-voted c v = follow c (starts c v)
 
-  module _ (all x : ℕ) (heard : all ≡ count mostSenders (isSender g)) (both : x ≡ count mostSenders (λ (i : ℕ). member (g .voters) i && member among i)) where
-    pub climb-asks : Readable names counts base (g .lengths) → all < 2 * x → Climbing names counts base g among all
-    unfolding Grade
-    climb-asks ok h =
-        let e = supports-empty in record { counted = record { readable = ok; heard = heard }; empty = omega arith }
+    -- ---- the end
 
-    pub find-none : 2 * x ≤ all → Gives (longest mostSenders ones R) names counts base Nothing
-    unfolding Grade
-    find-none h =
-        let e = supports-empty in record { log = sym (longest-nothing mostSenders ones R (λ q. omega arith)); placed = tt }
+    majority : Majority names counts base lengths may all (at who l)
+    majority = let e = weigh-cong mostSenders ones (member followers) (back (at who l)) (f .at) in let h = f .enough in omega arith
 
-  -- ---- every record
+    module _ (k : Climbing names counts base lengths may all) where
+      -- a log with a majority has a supporter, and so 64 blocks at the most
+      supporter : (M : Log) → Majority names counts base lengths may all M → Meet mostSenders (back M) (back M)
+      supporter M h = weigh-some mostSenders ones (back M) (omega arith)
 
-  module _ (v : Bool) (x : ℕ) (e : v ≡ lacksRoom names counts base) (f : x ≡ count mostSenders (λ (i : ℕ). ltb mostBlocks (getD (g .lengths) i 0))) where
-    barred : (lacksRoom names counts base || overlong (g .lengths)) ≡ (v || ltb 0 x)
-    unfolding overlong
-    barred = rw (← e, ← f)
+      pub top-full : mostBlocks ≤ l → l ≤ mostBlocks → who < mostSenders → Climbed names counts base lengths may all (Longest who l)
+      top-full a b w = record {
+        top = record {
+          place = w;
+          few = b;
+          majority = majority;
+          longest = λ M h.
+              let m = supporter M h in
+              let p = prefix-length (backs M (m .sender) (m .left) .1) in
+              let e = length-at names counts (placeOf base (m .sender)) (getD lengths (m .sender) 0) in
+              let s = k .readable .short (m .sender) (m .below) in
+              omega arith;
+        };
+      }
 
-    pub among-none : (v || ltb 0 x) ≡ true → Gives (gradeAmong names counts base g among) names counts base Nothing
-    unfolding gradeAmong
-    among-none t = record { log = rw (barred ∙ t); placed = tt }
+      -- two logs with a majority have a supporter in common: the longer one starts with the other
+      extends : (M : Log) → Majority names counts base lengths may all M → l ≤ length M → Prefix (at who l) M
+      extends M h g =
+          let a = majority in
+          let b = k .few in
+          let e = length-at names counts (placeOf base who) l in
+          let m = weigh-meet mostSenders ones (back (at who l)) (back M) (member may) (back-may (at who l)) (back-may M) (omega arith) in
+          prefix-shorter (compatible-under (backs (at who l) (m .sender) (m .left) .1) (backs M (m .sender) (m .right) .1)) (omega arith)
 
-    pub among-found : (r : answer.Grade) → (v || ltb 0 x) ≡ false → Gives (longest mostSenders ones R) names counts base r
-        → Gives (gradeAmong names counts base g among) names counts base r
-    unfolding gradeAmong
-    among-found r t h = rw (barred ∙ t) h
+      -- a longer log with a majority has a next block, that of some sender's log, which more than half of `all` have
+      module _ (M : Log) (h : Majority names counts base lengths may all M) (g : l < length M) where
+        abbrev s : ℕ
+        s = supporter M h .sender
 
-    pub find-asks : (v || ltb 0 x) ≡ false → Readable names counts base (g .lengths)
-    find-asks t =
-        let p = or-false v (ltb 0 x) t in
-        let q = or-false (ltb (length names) (base + span)) (ltb (length counts) (base + span)) (sym e ∙ p .0) in
-        let z = ltb-false 0 x (p .1) in
-        record {
-          inNames = ltb-false (length names) (base + span) (q .0);
-          inCounts = ltb-false (length counts) (base + span) (q .1);
-          short = λ i h. ltb-false mostBlocks (getD (g .lengths) i 0) (weigh-none mostSenders (λ (j : ℕ). ltb mostBlocks (getD (g .lengths) j 0)) i (omega arith) h);
-        }
+        first : (x : ℕ) → x ≤ length M → Prefix (at s x) M
+        first x a =
+            let p = backs M s (supporter M h .left) .1 in
+            subst (λ (L : Log). Prefix (at s x) L) (sym (prefix-there names counts (placeOf base s) (getD lengths s 0) M p)) (prefix-at names counts (placeOf base s) x (length M) a)
 
--- ---- with or without the snapshot
+        alike : at s l ≡ at who l
+        alike =
+            prefix-same (first l (omega arith)) (extends M h (omega arith)) (length-at names counts (placeOf base s) l ∙ sym (length-at names counts (placeOf base who) l))
 
-pub with-snapshot : (t : Bool) (o : Option Log) (names counts : List ℕ) (base : ℕ) (r : answer.Grade) → t ≡ true → Gives o names counts base r
-    → Gives (pick t o none) names counts base r
-with-snapshot t o names counts base r e h = rw e h
+        going : all < 2 * count mostSenders (narrowed names counts base lengths followers l (next l s))
+        going =
+            let a = weigh-mono mostSenders ones (back M) (back (at s (l + 1))) (back-prefix (first (l + 1) (omega arith))) in
+            let b = weigh-cong mostSenders ones (narrowed names counts base lengths followers l (next l s)) (back (at s (l + 1))) (λ j. back-next s j alike) in
+            omega arith
 
-pub without-snapshot : (t : Bool) (o : Option Log) (names counts : List ℕ) (base : ℕ) → t ≡ false → Gives (pick t o none) names counts base Nothing
-without-snapshot t o names counts base e = rw e (record { log = refl; placed = tt })
+        -- so the vote has found it
+        won : (c : ℕ) → Voted names counts base followers l who c → next l s ≡ next l c
+        won c v =
+            let a = going in
+            let b = weigh-mono mostSenders ones (narrowed names counts base lengths followers l (next l s)) (holding names counts base followers l (next l s)) (λ j i e.
+            let x = and-eq-true-iff (member followers j) (ltb l (getD lengths j 0) && sameBlock (next l s) (next l j)) .0 e in
+            let y = and-eq-true-iff (ltb l (getD lengths j 0)) (sameBlock (next l s) (next l j)) .0 (x .1) in
+            and-eq-true-iff (member followers j) (sameBlock (next l s) (next l j)) .1 (x .0, y .1)) in
+            let d = weigh-mono mostSenders ones (member followers) (member may) (λ j i e. back-may (at who l) j i (sym (f .at j i) ∙ e)) in
+            let z = k .few in
+            sameBlock-eq (next l s) (next l c) (v .led (next l s) (omega arith))
+
+        counted : (c : ℕ) → Voted names counts base followers l who c → (narrow : List Bool)
+            → SetOf (narrowed names counts base lengths followers l (next l c)) mostSenders narrow → all < 2 * count mostSenders (member narrow)
+        counted c v narrow t =
+            let a = going in
+            let b = ap (λ (x : Block). count mostSenders (narrowed names counts base lengths followers l x)) (won c v) in
+            let d = weigh-cong mostSenders ones (member narrow) (narrowed names counts base lengths followers l (next l c)) (t .at) in
+            omega arith
+
+      pub top-voted : (c : ℕ) (narrow : List Bool) (n : ℕ) → Voted names counts base followers l who c
+          → SetOf (narrowed names counts base lengths followers l (next l c)) mostSenders narrow → n ≡ count mostSenders (member narrow) → 2 * n ≤ all
+          → l ≤ mostBlocks → who < mostSenders → Climbed names counts base lengths may all (Longest who l)
+      top-voted c narrow n v t q z b w = record {
+        top = record {
+          place = w;
+          few = b;
+          majority = majority;
+          longest = λ M h. elim (decLe (length M) l) [
+            | yes a ↦ a
+            | no a ↦ let d = counted M h (omega arith) c v narrow t in absurd (omega arith)
+          ];
+        };
+      }

@@ -1,11 +1,15 @@
--- Counting senders in a loop: one more, and the end. Assumes nothing.
-use Prim.Native.Nat.{ℕ, suc, _+_, _≤_}
+-- Senders in a loop: counted, and put in an array. Assumes nothing.
+use Prim.Native.Nat.{ℕ, suc, _+_, _≤_, _<_}
+use native.Mathlib.Decide.{decLe}
 use native.Mathlib.Omega.{arith}
 use mathlib.Core.Bool.{Bool, true, false}
-use mathlib.Core.Path.{_≡_, refl, ap, _∙_}
-use Rattle.message.specs.Choice.{pick}
+use mathlib.Core.List.{List}
+use mathlib.Core.Path.{_≡_, refl, sym, ap, _∙_}
+use lib.ListN.{length, getD, set}
+use lib.Seq.{getD-set-same, getD-set-other}
 use Rattle.agreement.specs.Limits.{mostSenders}
 use Rattle.agreement.specs.Sets.{share, weigh, count}
+use Rattle.agreement.specs.Steps.{SetOf}
 
 -- a test as a number
 pub added-is : (t : Bool) → (mir.Val.boolByte t ≡ share t 1) × (mir.Val.boolByte t ≤ 1)
@@ -28,6 +32,19 @@ count-next p n m i e f =
 pub count-all : (p : ℕ → Bool) (n i : ℕ) → n ≡ count i p → i ≤ mostSenders → mostSenders ≤ i → n ≡ count mostSenders p
 count-all p n i e h g = let s : i ≡ mostSenders = omega arith in e ∙ ap (λ (k : ℕ). count k p) s
 
--- a number that counts where the test holds
-pub where-may : (t : Bool) (r x : ℕ) → t ≡ true → r ≡ x → r ≡ pick t x 0
-where-may t r x e f = rw e f
+-- ---- a set put in an array
+
+pub set-none : (p : ℕ → Bool) (marks : List Bool) → SetOf p 0 marks
+set-none p marks = record { at = λ j h. absurd (omega arith) }
+
+pub set-next : (p : ℕ → Bool) (marks : List Bool) (x : Bool) (j : ℕ) → SetOf p j marks → length marks ≡ mostSenders → j < mostSenders → x ≡ p j
+    → SetOf p (j + 1) (set marks j x)
+set-next p marks x j h s l e = record {
+  at = λ k q. elim (decLe j k) [
+    | yes a ↦ let t : k ≡ j = omega arith in ap (λ (i : ℕ). getD (set marks j x) i false) t ∙ getD-set-same marks j x false (omega arith) ∙ e ∙ ap p (sym t)
+    | no a ↦ getD-set-other marks j k x false (λ t. omega arith) ∙ h .at k (omega arith)
+  ];
+}
+
+pub set-all : (p : ℕ → Bool) (marks : List Bool) (j : ℕ) → SetOf p j marks → mostSenders ≤ j → SetOf p mostSenders marks
+set-all p marks j h g = record { at = λ k q. h .at k (omega arith) }

@@ -22,5 +22,7 @@ pub mod ProposalLaws
 pub mod ChoiceLaws
 -- Reading a grade:
 pub mod CountLaws
-pub mod StepLaws
+pub mod NarrowLaws
+pub mod VoteLaws
 pub mod ClimbLaws
+pub mod FindLaws

@@ -1,22 +1,21 @@
 -- What functions inside this crate ask and promise each other; nothing outside it depends on these. Assumes nothing.
-use Prim.Native.Nat.{ℕ, _+_, _-_, _*_, _≤_, _<_}
-use mathlib.Core.Bool.{Bool, true, _&&_}
-use mathlib.Core.List.{List, []}
+use Prim.Native.Nat.{ℕ, _+_, _*_, _≤_, _<_}
+use mathlib.Core.Bool.{Bool, true, _&&_, not}
+use mathlib.Core.List.{List}
 use mathlib.Core.Logic.{_⊎_}
 use mathlib.Core.Path.{_≡_}
 use lib.Dec.{ltb}
 use lib.ListN.{length, getD}
 use Rattle.message.specs.Limits.{mostBlocks}
-use Rattle.message.specs.Choice.{pick}
-use Rattle.message.specs.Logs.{Log, Prefix}
-use Rattle.message.specs.Store.{logAt, sharedAt}
+use Rattle.message.specs.Logs.{Block, Log, sameBlock, isPrefix}
+use Rattle.message.specs.Store.{blockAt, logAt}
 use Rattle.agreement.specs.Limits.{mostSenders, span, placeOf}
-use Rattle.agreement.specs.Sets.{ones, count, member}
-use Rattle.agreement.specs.Reading.{maySupport, Grade}
-use Rattle.agreement.specs.Record.{isSender, readingOf}
+use Rattle.agreement.specs.Sets.{share, count, member}
+use Rattle.agreement.specs.Record.{filedLog}
 use Rattle.agreement.specs.Proposals.{HasPlace}
-use Rattle.agreement.specs.declared.Agreement.{Agreement}
 use Rattle.agreement.specs.declared.Choice.{Choice}
+use Rattle.agreement.specs.declared.Grade.{Grade}
+use Rattle.agreement.specs.declared.Grade.the-variants.{Longest, Nothing}
 
 -- The lists have room from `base` on, and no length is over 64.
 pub record Readable (names counts : List ℕ) (base : ℕ) (lengths : List ℕ) : Type 0 where
@@ -24,64 +23,79 @@ pub record Readable (names counts : List ℕ) (base : ℕ) (lengths : List ℕ) 
   pub inCounts : base + span ≤ length counts
   pub short : (i : ℕ) → i < mostSenders → getD lengths i 0 ≤ mostBlocks
 
--- how far sender j's log is alike the log of x blocks at a, 0 where j may not support
-abbrev pub rowFrom : List ℕ → List ℕ → ℕ → List ℕ → List Bool → List Bool → ℕ → ℕ → ℕ → ℕ
-rowFrom names counts base lengths voters among a x j =
-    pick (member voters j && member among j) (sharedAt names counts a x (placeOf base j) (getD lengths j 0)) 0
+-- the array tells of each sender below k whether it is in the set p
+pub record SetOf (p : ℕ → Bool) (k : ℕ) (set : List Bool) : Type 0 where
+  pub at : (j : ℕ) → j < k → member set j ≡ p j
 
--- the same of sender i's log
-abbrev pub rowAt : List ℕ → List ℕ → ℕ → List ℕ → List Bool → List Bool → ℕ → ℕ → ℕ
-rowAt names counts base lengths voters among i = rowFrom names counts base lengths voters among (placeOf base i) (getD lengths i 0)
+-- ---- following the majority, block by block
 
--- the first k numbers of the row are f's
-pub record SharedRow (f : ℕ → ℕ) (k : ℕ) (row : List ℕ) : Type 0 where
-  pub at : (j : ℕ) → j < k → getD row j 0 ≡ f j
+-- of the senders that may support, those whose log starts with L
+abbrev pub backing : List ℕ → List ℕ → ℕ → List ℕ → List Bool → Log → ℕ → Bool
+backing names counts base lengths may L j = member may j && isPrefix L (filedLog names counts base lengths j)
 
--- how many of the row share m blocks or more, m not zero
-abbrev pub sharing : List ℕ → ℕ → ℕ
-sharing row m = count mostSenders (λ (j : ℕ). ltb (m - 1) (getD row j 0))
+-- more than half of `all` are among them
+abbrev pub Majority : List ℕ → List ℕ → ℕ → List ℕ → List Bool → ℕ → Log → Type 0
+Majority names counts base lengths may all L = all < 2 * count mostSenders (backing names counts base lengths may L)
 
--- more than m blocks, up to `high`, are shared by no more than half of `all`
-pub record Above (row : List ℕ) (all m high : ℕ) : Type 0 where
-  pub few : (l : ℕ) → m < l → l ≤ high → 2 * sharing row l ≤ all
+-- the block that stands after l blocks at sender i's place
+abbrev pub nextBlock : List ℕ → List ℕ → ℕ → ℕ → ℕ → Block
+nextBlock names counts base l i = blockAt names counts (placeOf base i + l)
 
-pub record Highest (row : List ℕ) (all low high r : ℕ) : Type 0 where
-  pub least : low ≤ r
-  pub most : r ≤ high
-  pub reached : (r ≡ low) ⊎ (all < 2 * sharing row r)
-  pub above : Above row all r high
+-- of the followers, those whose log goes on after l blocks with block x
+abbrev pub narrowed : List ℕ → List ℕ → ℕ → List ℕ → List Bool → ℕ → Block → ℕ → Bool
+narrowed names counts base lengths followers l x j =
+    member followers j && (ltb l (getD lengths j 0) && sameBlock x (nextBlock names counts base l j))
 
--- what one grade reads, and |S| as counted
-pub record Counted (names counts : List ℕ) (base : ℕ) (g : Agreement) (all : ℕ) : Type 0 where
-  pub readable : Readable names counts base (g .lengths)
-  pub heard : all ≡ count mostSenders (isSender g)
+-- the same, whether or not the log has more than l blocks
+abbrev pub holding : List ℕ → List ℕ → ℕ → List Bool → ℕ → Block → ℕ → Bool
+holding names counts base followers l x j = member followers j && sameBlock x (nextBlock names counts base l j)
 
--- the log of r blocks of sender i's place has the grade
-abbrev pub GradeAt : List ℕ → List ℕ → ℕ → Agreement → List Bool → ℕ → ℕ → Type 0
-GradeAt names counts base g among i r = Grade mostSenders ones (readingOf names counts base g among) (logAt names counts (placeOf base i) r)
+-- one block more at each sender's place lies within the lists
+pub record Next (names counts : List ℕ) (base l : ℕ) : Type 0 where
+  pub inNames : base + span ≤ length names
+  pub inCounts : base + span ≤ length counts
+  pub few : l < mostBlocks
 
--- no prefix of sender j's log that has the grade has more than r blocks
-abbrev pub NoneOver : List ℕ → List ℕ → ℕ → Agreement → List Bool → ℕ → ℕ → Type 0
-NoneOver names counts base g among j r =
-    maySupport (readingOf names counts base g among) j ≡ true
-    → (M : Log) → Prefix M (readingOf names counts base g among .log j) → Grade mostSenders ones (readingOf names counts base g among) M → length M ≤ r
+-- The majority vote (Boyer and Moore), after the followers below j: twice those that have the candidate's block are at most `weight` more
+-- than the followers, and twice those that have any other block at least `weight` fewer.
+pub record Leads (names counts : List ℕ) (base : ℕ) (followers : List Bool) (l who j best weight : ℕ) : Type 0 where
+  pub most : (x : Block) → 2 * count j (holding names counts base followers l x) + share (not (sameBlock x (nextBlock names counts base l best))) weight
+      ≤ count j (member followers) + share (sameBlock x (nextBlock names counts base l best)) weight
+  pub from : (best ≡ who) ⊎ (member followers best ≡ true)
 
--- r is `low`, or the length of a longer prefix of sender i's log with the grade; no prefix of it with the grade is longer than r
-pub record Reached (names counts : List ℕ) (base : ℕ) (g : Agreement) (among : List Bool) (i low r : ℕ) : Type 0 where
-  pub least : low ≤ r
-  pub most : r ≤ mostBlocks
-  pub reached : low < r → GradeAt names counts base g among i r
-  pub none : NoneOver names counts base g among i r
+-- a block that more than half of the followers have is the one of sender c, who is a follower, or is `who`
+pub record Voted (names counts : List ℕ) (base : ℕ) (followers : List Bool) (l who c : ℕ) : Type 0 where
+  pub place : c < mostSenders
+  pub led : (x : Block) → count mostSenders (member followers) < 2 * count mostSenders (holding names counts base followers l x)
+      → sameBlock x (nextBlock names counts base l c) ≡ true
+  pub from : (c ≡ who) ⊎ (member followers c ≡ true)
 
--- `best` blocks at sender `who`'s place have the grade, and no longer prefix of the log of a sender below i has it
-pub record BestSoFar (names counts : List ℕ) (base : ℕ) (g : Agreement) (among : List Bool) (best who i : ℕ) : Type 0 where
-  pub grade : GradeAt names counts base g among who best
-  pub none : (j : ℕ) → j < i → NoneOver names counts base g among j best
+-- the senders that may support are no more than `all`, and more than half of it
+pub record Climbing (names counts : List ℕ) (base : ℕ) (lengths : List ℕ) (may : List Bool) (all : ℕ) : Type 0 where
+  pub readable : Readable names counts base lengths
+  pub few : count mostSenders (member may) ≤ all
+  pub enough : all < 2 * count mostSenders (member may)
 
--- the empty log has the grade
-pub record Climbing (names counts : List ℕ) (base : ℕ) (g : Agreement) (among : List Bool) (all : ℕ) : Type 0 where
-  pub counted : Counted names counts base g all
-  pub empty : Grade mostSenders ones (readingOf names counts base g among) []
+-- the followers are those whose log starts with the l blocks at sender `who`'s place, and are a majority
+pub record Following (names counts : List ℕ) (base : ℕ) (lengths : List ℕ) (may : List Bool) (all who l : ℕ) (followers : List Bool) : Type 0 where
+  pub at : (j : ℕ) → j < mostSenders → member followers j ≡ backing names counts base lengths may (logAt names counts (placeOf base who) l) j
+  pub enough : all < 2 * count mostSenders (member followers)
+
+-- the l blocks at sender `who`'s place have a majority, and no longer log has one
+pub record Top (names counts : List ℕ) (base : ℕ) (lengths : List ℕ) (may : List Bool) (all who l : ℕ) : Type 0 where
+  pub place : who < mostSenders
+  pub few : l ≤ mostBlocks
+  pub majority : Majority names counts base lengths may all (logAt names counts (placeOf base who) l)
+  pub longest : (M : Log) → Majority names counts base lengths may all M → length M ≤ l
+
+abbrev pub TopOf : List ℕ → List ℕ → ℕ → List ℕ → List Bool → ℕ → Grade → Type 0
+TopOf names counts base lengths may all Nothing = ⊥
+TopOf names counts base lengths may all (Longest who l) = Top names counts base lengths may all who l
+
+pub record Climbed (names counts : List ℕ) (base : ℕ) (lengths : List ℕ) (may : List Bool) (all : ℕ) (r : Grade) : Type 0 where
+  pub top : TopOf names counts base lengths may all r
+
+-- ---- proposing
 
 -- The best proposer so far and the next sender each have a place in the record.
 pub record Contest (best : Choice) (i : ℕ) : Type 0 where

@@ -1,19 +1,17 @@
-// Reading a grade: the longest log that more than half of all senders support. Each of 32 logs is walked along
-// with each of 32 once at the most.
+// Reading a grade: the longest log that more than half of all senders support. The majority is followed block by block: its
+// followers are those whose log starts so. One pass over 32 senders a block, three where the sender walked along leaves it.
 ghost use mathlib.Core.Path.{_≡_};
 ghost use mathlib.Core.Bool.{_&&_, _||_};
 ghost use Prim.Native.Nat.{_≤_, _<_};
 ghost use lib.Dec.{ltb};
 ghost use lib.ListN.{getD};
-ghost use Rattle.message.specs.Limits.{mostBlocks};
-ghost use Rattle.message.specs.Choice.{pick};
-ghost use Rattle.message.specs.Store.{sharedAt};
+ghost use Rattle.message.specs.Logs.{sameBlock};
 ghost use Rattle.agreement.specs.Limits.{mostSenders};
 ghost use Rattle.agreement.specs.Sets.{share, ones, count, member};
 ghost use Rattle.agreement.specs.Reading.{longest};
 ghost use Rattle.agreement.specs.Record.{isSender, overlong, readingOf};
 ghost use Rattle.agreement.specs.Grades.{Gives, gradeAmong, gradeZero, gradeOne, gradeTwo};
-ghost use Rattle.agreement.specs.Steps.{Readable, Counted, Climbing, SharedRow, rowAt, Highest, Reached};
+ghost use Rattle.agreement.specs.Steps.{Readable, SetOf, Next, nextBlock, narrowed, Voted, Climbing, Climbed};
 use super::Agreement;
 use super::Grade;
 use super::MOST_BLOCKS;
@@ -43,13 +41,26 @@ fn count_senders(g: Agreement) -> usize
 }
 
 // The senders that may support: those in both sets.
-fn count_both(voters: [bool; 32], among: [bool; 32]) -> usize
-    ensures { λ r. ⌜ (r ≡ count mostSenders (λ i. member voters i && member among i)) × (r ≤ mostSenders) ⌝ }
+fn in_both(voters: [bool; 32], among: [bool; 32]) -> [bool; 32]
+    ensures { λ r. ⌜ SetOf (λ i. member voters i && member among i) mostSenders r ⌝ }
+{
+    let mut both: [bool; 32] = [false; 32];
+    let mut i = 0;
+    while i < MOST_SENDERS {
+        both[i] = voters[i] & among[i];
+        i += 1;
+    }
+    both
+}
+
+// How many senders are in the set.
+fn count_in(set: [bool; 32]) -> usize
+    ensures { λ r. ⌜ (r ≡ count mostSenders (member set)) × (r ≤ mostSenders) ⌝ }
 {
     let mut n = 0;
     let mut i = 0;
     while i < MOST_SENDERS {
-        n += added(voters[i] & among[i]);
+        n += added(set[i]);
         i += 1;
     }
     n
@@ -68,113 +79,112 @@ fn count_over(row: [u8; 32], l: usize) -> usize
     n
 }
 
-// How far the log of x blocks at a and the log of y blocks at b are alike; 0 where the second one's sender may not support.
-fn shared_if(names: &[u64], counts: &[u16], may: bool, a: usize, x: usize, b: usize, y: usize) -> u8
-    ensures { λ r. ⌜ r ≡ pick may (sharedAt (now (names .entry)) (now (counts .entry)) a x b y) 0 ⌝ }
-{
-    if may {
-        return message::store::shared(names, counts, a, x, b, y) as u8;
-    }
-    0
-}
-
-// How far each sender's log is alike sender i's: one walk for each that may support, 0 for each that may not.
-fn shared_row(
+// Of the followers, those whose log goes on after l blocks with the block that stands there at sender c's place.
+fn narrow(
     names: &[u64],
     counts: &[u16],
-    g: Agreement,
-    among: [bool; 32],
+    lengths: [u8; 32],
+    followers: [bool; 32],
     base: u32,
-    i: usize,
-) -> [u8; 32]
-    requires { ⌜ i < mostSenders ⌝ }
-    ensures { λ r. ⌜ SharedRow (rowAt (now (names .entry)) (now (counts .entry)) base (g .lengths) (g .voters) among i) mostSenders r ⌝ }
+    l: usize,
+    c: usize,
+) -> [bool; 32]
+    requires { ⌜ (Next (now names) (now counts) base l) × (c < mostSenders) ⌝ }
+    ensures { λ r. ⌜ SetOf (narrowed (now (names .entry)) (now (counts .entry)) base lengths followers l (nextBlock (now (names .entry)) (now (counts .entry)) base l c)) mostSenders r ⌝ }
 {
-    let lengths = g.lengths;
-    let voters = g.voters;
-    let x = lengths[i] as usize;
-    let a = base as usize + MOST_BLOCKS * i;
-    let mut row: [u8; 32] = [0; 32];
+    let a = base as usize + MOST_BLOCKS * c + l;
+    let name = names[a];
+    let count = counts[a];
+    let mut next: [bool; 32] = [false; 32];
     let mut j = 0;
     while j < MOST_SENDERS {
-        row[j] = shared_if(
-            names,
-            counts,
-            voters[j] & among[j],
-            a,
-            x,
-            base as usize + MOST_BLOCKS * j,
-            lengths[j] as usize,
-        );
+        let b = base as usize + MOST_BLOCKS * j + l;
+        next[j] = followers[j]
+            & ((l < lengths[j] as usize) & ((name == names[b]) & (count == counts[b])));
         j += 1;
     }
-    row
+    next
 }
 
-// The greatest number of blocks over `low`, up to `high`, that more than half of `all` share; `low` where there is none.
-fn highest(row: [u8; 32], all: usize, low: usize, high: usize) -> usize
-    requires { ⌜ low < high ⌝ }
-    ensures { λ r. ⌜ Highest row all low high r ⌝ }
+// The blocks that stand after l blocks at two senders' places are the same.
+fn same_next(names: &[u64], counts: &[u16], base: u32, l: usize, i: usize, j: usize) -> bool
+    requires { ⌜ (Next (now names) (now counts) base l) × ((i < mostSenders) × (j < mostSenders)) ⌝ }
+    ensures { λ r. ⌜ r ≡ sameBlock (nextBlock (now (names .entry)) (now (counts .entry)) base l i) (nextBlock (now (names .entry)) (now (counts .entry)) base l j) ⌝ }
 {
-    let mut m = high;
-    while low < m {
-        if all < 2 * count_over(row, m - 1) {
-            return m;
-        }
-        m -= 1;
-    }
-    low
+    let a = base as usize + MOST_BLOCKS * i + l;
+    let b = base as usize + MOST_BLOCKS * j + l;
+    (names[a] == names[b]) & (counts[a] == counts[b])
 }
 
-// The blocks of the longest prefix of sender i's log that has the grade, where that is over `low`; else `low`.
-fn reach(
+// A sender that has, after l blocks, the block that more than half of the followers have there, if there is one: a majority
+// vote (Boyer and Moore), in one pass.
+fn vote(
     names: &[u64],
     counts: &[u16],
-    g: Agreement,
-    among: [bool; 32],
+    followers: [bool; 32],
     base: u32,
-    all: usize,
-    i: usize,
-    low: usize,
+    l: usize,
+    who: usize,
 ) -> usize
-    requires { ⌜ (Counted (now names) (now counts) base g all) × ((i < mostSenders) × (low ≤ mostBlocks)) ⌝ }
-    ensures { λ r. ⌜ Reached (now (names .entry)) (now (counts .entry)) base g among i low r ⌝ }
+    requires { ⌜ (Next (now names) (now counts) base l) × (who < mostSenders) ⌝ }
+    ensures { λ r. ⌜ Voted (now (names .entry)) (now (counts .entry)) base followers l who r ⌝ }
 {
-    let lengths = g.lengths;
-    let voters = g.voters;
-    let high = lengths[i] as usize;
-    if (voters[i] & among[i]) & (low < high) {
-        let row = shared_row(names, counts, g, among, base, i);
-        return highest(row, all, low, high);
+    let mut best = who;
+    let mut weight: usize = 0;
+    let mut j = 0;
+    while j < MOST_SENDERS {
+        let sender = j;
+        j += 1;
+        if followers[sender] {
+            if 0 < weight {
+                if same_next(names, counts, base, l, best, sender) {
+                    weight += 1;
+                } else {
+                    weight -= 1;
+                }
+            } else {
+                best = sender;
+                weight = 1;
+            }
+        }
     }
-    low
+    best
 }
 
-// The longest log with the grade, where the empty log has it: sender by sender, looking only for what is longer than found.
+// The longest log with the grade, where the empty log has it. Each block is first looked for at `who`, which nearly always stays
+// with the majority; where it has left, a vote tells whom to walk along with, or that nothing longer has the grade.
 fn climb(
     names: &[u64],
     counts: &[u16],
-    g: Agreement,
-    among: [bool; 32],
+    lengths: [u8; 32],
+    may: [bool; 32],
     base: u32,
     all: usize,
 ) -> Grade
-    requires { ⌜ Climbing (now names) (now counts) base g among all ⌝ }
-    ensures { λ r. ⌜ Gives (longest mostSenders ones (readingOf (now (names .entry)) (now (counts .entry)) base g among)) (now (names .entry)) (now (counts .entry)) base r ⌝ }
+    requires { ⌜ Climbing (now names) (now counts) base lengths may all ⌝ }
+    ensures { λ r. ⌜ Climbed (now (names .entry)) (now (counts .entry)) base lengths may all r ⌝ }
 {
-    let mut best = 0;
+    let mut followers = may;
     let mut who = 0;
-    let mut i = 0;
-    while i < MOST_SENDERS {
-        let found = reach(names, counts, g, among, base, all, i, best);
-        let sender = i;
-        i += 1;
-        if best < found {
-            best = found;
-            who = sender;
+    let mut l = 0;
+    while l < MOST_BLOCKS {
+        let near = narrow(names, counts, lengths, followers, base, l, who);
+        if all < 2 * count_in(near) {
+            followers = near;
+            l += 1;
+        } else {
+            let c = vote(names, counts, followers, base, l, who);
+            let next = narrow(names, counts, lengths, followers, base, l, c);
+            if all < 2 * count_in(next) {
+                followers = next;
+                who = c;
+                l += 1;
+            } else {
+                return Grade::Longest(who as u8, l as u8);
+            }
         }
     }
-    Grade::Longest(who as u8, best as u8)
+    Grade::Longest(who as u8, l as u8)
 }
 
 // The longest log with the grade. The empty log has it where more than half of S may support: if it has not, no log has.
@@ -182,10 +192,12 @@ fn find(names: &[u64], counts: &[u16], g: Agreement, among: [bool; 32], base: u3
     requires { ⌜ Readable (now names) (now counts) base (g .lengths) ⌝ }
     ensures { λ r. ⌜ Gives (longest mostSenders ones (readingOf (now (names .entry)) (now (counts .entry)) base g among)) (now (names .entry)) (now (counts .entry)) base r ⌝ }
 {
+    let lengths = g.lengths;
     let voters = g.voters;
+    let may = in_both(voters, among);
     let all = count_senders(g);
-    if all < 2 * count_both(voters, among) {
-        return climb(names, counts, g, among, base, all);
+    if all < 2 * count_in(may) {
+        return climb(names, counts, lengths, may, base, all);
     }
     Grade::Nothing
 }

@@ -1,47 +1,77 @@
-use Rattle.agreement.proofs.ClimbLaws.{climb-start, climb-same, climb-more, climbed}
+use Rattle.agreement.proofs.ClimbLaws.{follow-all, follow-same, follow-voted, top-voted, top-full}
 use Prim.Native.Nat.{_≤_, _<_, _-_}
 use Rattle.message.specs.Limits.{mostBlocks}
 use Rattle.agreement.specs.Limits.{mostSenders}
-use Rattle.agreement.specs.Steps.{BestSoFar}
+use Rattle.agreement.specs.Steps.{Climbing, Following}
 use borrow.Author.Needs.{needs}
 use Rattle.agreement.proofs.grading.climb.Statement.{statement}
 use Rattle.agreement.proofs.grading.climb.Tie as tie
 
 abbrev Inv-loop : tie.InvT-loop
-Inv-loop names counts g among base all best₀ who₀ i₀ best who i = (((i ≤ mostSenders) × (who < mostSenders)) × (best ≤ mostBlocks)) × BestSoFar names counts base g among best who i
+Inv-loop names counts lengths base all followers₀ who₀ l₀ followers who l = ((l ≤ mostBlocks) × (who < mostSenders)) × (Climbing names counts base lengths followers₀ all × Following names counts base lengths followers₀ all who l followers)
 
 abbrev μ-loop : tie.MeasureT-loop
-μ-loop names counts g among base all best₀ who₀ i₀ best who i = mostSenders - i
+μ-loop names counts lengths base all followers₀ who₀ l₀ followers who l = mostBlocks - l
 
 loop-holds : tie.Need-loop-holds Inv-loop μ-loop
-loop-holds c = (((search needs, search needs), search needs), search climb-start)
+loop-holds c = ((search needs, search needs), (search needs, search follow-all))
 
-reach-requires : tie.Need-reach-requires Inv-loop μ-loop
-reach-requires c κs = search needs
+narrow-requires : tie.Need-narrow-requires Inv-loop μ-loop
+narrow-requires c κs = search needs
 
-add-i : tie.Need-add-i Inv-loop μ-loop
-add-i c = search needs
+count-in-requires : tie.Need-count-in-requires Inv-loop μ-loop
+count-in-requires c κs = search needs
+
+mul-if1 : tie.Need-mul-if1 Inv-loop μ-loop
+mul-if1 c = search needs
+
+add-l : tie.Need-add-l Inv-loop μ-loop
+add-l c = search needs
 
 loop-less : tie.Need-loop-less Inv-loop μ-loop
 loop-less c = search needs
 
 loop-again : tie.Need-loop-again Inv-loop μ-loop
-loop-again c = (((search needs, search needs), search needs), climb-more _ _ _ _ _ _ _ _ _ (c .before .before .before .loop .inv .1) (c .before .reach .ensures) (c .if1 .taken))
+loop-again c = ((search needs, search needs), (search needs, search follow-same))
+
+vote-requires : tie.Need-vote-requires Inv-loop μ-loop
+vote-requires c κs = search needs
+
+narrow-requires-2 : tie.Need-narrow-requires-2 Inv-loop μ-loop
+narrow-requires-2 c κs = search needs
+
+count-in-requires-2 : tie.Need-count-in-requires-2 Inv-loop μ-loop
+count-in-requires-2 c κs = search needs
+
+mul-if2 : tie.Need-mul-if2 Inv-loop μ-loop
+mul-if2 c = search needs
+
+add-l-2 : tie.Need-add-l-2 Inv-loop μ-loop
+add-l-2 c = search needs
 
 loop-less-2 : tie.Need-loop-less-2 Inv-loop μ-loop
 loop-less-2 c = search needs
 
 loop-again-2 : tie.Need-loop-again-2 Inv-loop μ-loop
-loop-again-2 c = (((search needs, search needs), search needs), climb-same _ _ _ _ _ _ _ _ _ (c .before .before .before .loop .inv .1) (c .before .reach .ensures) (c .if1 .left))
+loop-again-2 c = ((search needs, search needs), (search needs, search follow-voted))
 
-cast-t13 : tie.Need-cast-t13 Inv-loop μ-loop
-cast-t13 c = search needs
+cast-t19 : tie.Need-cast-t19 Inv-loop μ-loop
+cast-t19 c = search needs
 
-cast-t14 : tie.Need-cast-t14 Inv-loop μ-loop
-cast-t14 c = search needs
+cast-t20 : tie.Need-cast-t20 Inv-loop μ-loop
+cast-t20 c = search needs
 
 returns : tie.Need-returns Inv-loop μ-loop
-returns c = search climbed
+returns c = top-voted _ _ _ _ _ _ _ _ _ (c .before .before .before .before .before .before .before .before .loop .inv .1 .1) (c .before .before .before .before .before .before .before .before .loop .inv .1 .0) _ _ _ (c .before .before .before .vote .ensures) (c .before .before .narrow2 .ensures) (c .before .count-in2 .ensures .0) (c .if2 .left) (search needs) (search needs)
+
+cast-t21 : tie.Need-cast-t21 Inv-loop μ-loop
+cast-t21 c = search needs
+
+cast-t22 : tie.Need-cast-t22 Inv-loop μ-loop
+cast-t22 c = search needs
+
+returns-2 : tie.Need-returns-2 Inv-loop μ-loop
+returns-2 c = search top-full
 
 pub climb-spec : {M : Type 1} → statement M
 climb-spec =
@@ -50,12 +80,22 @@ climb-spec =
     Inv-loop
     μ-loop
     loop-holds
-    reach-requires
-    add-i
+    narrow-requires
+    count-in-requires
+    mul-if1
+    add-l
     loop-less
     loop-again
+    vote-requires
+    narrow-requires-2
+    count-in-requires-2
+    mul-if2
+    add-l-2
     loop-less-2
     loop-again-2
-    cast-t13
-    cast-t14
-    returns)
+    cast-t19
+    cast-t20
+    returns
+    cast-t21
+    cast-t22
+    returns-2)

@@ -1,4 +1,4 @@
-use Rattle.agreement.proofs.ClimbLaws.{among-none, find-asks, among-found}
+use Rattle.agreement.proofs.FindLaws.{among-none, find-asks, among-found}
 use borrow.Author.Needs.{needs}
 use Rattle.agreement.proofs.grading.grade_among.Statement.{statement}
 use Rattle.agreement.proofs.grading.grade_among.Tie as tie

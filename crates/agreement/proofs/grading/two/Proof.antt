@@ -1,4 +1,4 @@
-use Rattle.agreement.proofs.ClimbLaws.{with-snapshot, without-snapshot}
+use Rattle.agreement.proofs.FindLaws.{with-snapshot, without-snapshot}
 use borrow.Author.Needs.{needs}
 use Rattle.agreement.proofs.grading.two.Statement.{statement}
 use Rattle.agreement.proofs.grading.two.Tie as tie

@@ -4,25 +4,21 @@ use Prim.Native.Nat.{_≤_, _-_}
 use mathlib.Core.Path.{_≡_}
 use Rattle.agreement.specs.Sets.{count, member}
 use Rattle.agreement.specs.Limits.{mostSenders}
-use mathlib.Core.Bool.{_&&_}
 use borrow.Author.Needs.{needs}
-use Rattle.agreement.proofs.grading.count_both.Statement.{statement}
-use Rattle.agreement.proofs.grading.count_both.Tie as tie
+use Rattle.agreement.proofs.grading.count_in.Statement.{statement}
+use Rattle.agreement.proofs.grading.count_in.Tie as tie
 
 abbrev Inv-loop : tie.InvT-loop
-Inv-loop voters among n₀ i₀ n i = ((i ≤ mostSenders) × (n ≤ i)) × (n ≡ count i (λ j. member voters j && member among j))
+Inv-loop set n₀ i₀ n i = ((i ≤ mostSenders) × (n ≤ i)) × (n ≡ count i (member set))
 
 abbrev μ-loop : tie.MeasureT-loop
-μ-loop voters among n₀ i₀ n i = mostSenders - i
+μ-loop set n₀ i₀ n i = mostSenders - i
 
 loop-holds : tie.Need-loop-holds Inv-loop μ-loop
 loop-holds c = ((search needs, search needs), count-none _)
 
 array-read-added : tie.Need-array-read-added Inv-loop μ-loop
 array-read-added c = search needs
-
-array-read-added-2 : tie.Need-array-read-added-2 Inv-loop μ-loop
-array-read-added-2 c = search needs
 
 added-requires : tie.Need-added-requires Inv-loop μ-loop
 added-requires c κs = search needs
@@ -42,15 +38,14 @@ loop-again c = ((search needs, search needs), search count-next)
 returns : tie.Need-returns Inv-loop μ-loop
 returns c = (search count-all, omega arith)
 
-pub count-both-spec : {M : Type 1} → statement M
-count-both-spec =
+pub count-in-spec : {M : Type 1} → statement M
+count-in-spec =
     tie.close
     (tie.spec
     Inv-loop
     μ-loop
     loop-holds
     array-read-added
-    array-read-added-2
     added-requires
     add-n
     add-i

@@ -1,0 +1,115 @@
+use Rattle.agreement.proofs.CountLaws.{set-none, set-all}
+use Rattle.agreement.proofs.NarrowLaws.{narrow-next}
+use Prim.Native.Nat.{_+_, _≤_, _-_}
+use mathlib.Core.Path.{_≡_, refl}
+use lib.ListN.{length, length-set, getD}
+use Rattle.agreement.specs.Limits.{mostSenders, placeOf}
+use Rattle.agreement.specs.Steps.{SetOf, nextBlock, narrowed}
+use borrow.Author.Needs.{needs}
+use Rattle.agreement.proofs.grading.narrow.Statement.{statement}
+use Rattle.agreement.proofs.grading.narrow.Tie as tie
+
+abbrev Inv-loop : tie.InvT-loop
+Inv-loop names counts base l c lengths followers a name count next₀ j₀ next j = ((j ≤ mostSenders) × (length next ≡ mostSenders)) × (((name ≡ getD names (placeOf base c + l) 0) × (count ≡ getD counts (placeOf base c + l) 0)) × SetOf (narrowed names counts base lengths followers l (nextBlock names counts base l c)) j next)
+
+abbrev μ-loop : tie.MeasureT-loop
+μ-loop names counts base l c lengths followers a name count next₀ j₀ next j = mostSenders - j
+
+mul-a : tie.Need-mul-a Inv-loop μ-loop
+mul-a c = search needs
+
+add-a : tie.Need-add-a Inv-loop μ-loop
+add-a c = search needs
+
+add-a-2 : tie.Need-add-a-2 Inv-loop μ-loop
+add-a-2 c = search needs
+
+mul-name : tie.Need-mul-name Inv-loop μ-loop
+mul-name c = search needs
+
+shared-slice-read-name : tie.Need-shared-slice-read-name Inv-loop μ-loop
+shared-slice-read-name c = search needs
+
+mul-count : tie.Need-mul-count Inv-loop μ-loop
+mul-count c = search needs
+
+shared-slice-read-count : tie.Need-shared-slice-read-count Inv-loop μ-loop
+shared-slice-read-count c = search needs
+
+loop-holds : tie.Need-loop-holds Inv-loop μ-loop
+loop-holds c = ((search needs, refl), ((refl, refl), set-none _ _))
+
+mul-b : tie.Need-mul-b Inv-loop μ-loop
+mul-b c = search needs
+
+add-b : tie.Need-add-b Inv-loop μ-loop
+add-b c = search needs
+
+add-b-2 : tie.Need-add-b-2 Inv-loop μ-loop
+add-b-2 c = search needs
+
+array-read-next : tie.Need-array-read-next Inv-loop μ-loop
+array-read-next c = search needs
+
+array-read-next-2 : tie.Need-array-read-next-2 Inv-loop μ-loop
+array-read-next-2 c = search needs
+
+cast-next : tie.Need-cast-next Inv-loop μ-loop
+cast-next c = search needs
+
+mul-next : tie.Need-mul-next Inv-loop μ-loop
+mul-next c = search needs
+
+shared-slice-read-next : tie.Need-shared-slice-read-next Inv-loop μ-loop
+shared-slice-read-next c = search needs
+
+mul-next-2 : tie.Need-mul-next-2 Inv-loop μ-loop
+mul-next-2 c = search needs
+
+shared-slice-read-next-2 : tie.Need-shared-slice-read-next-2 Inv-loop μ-loop
+shared-slice-read-next-2 c = search needs
+
+array-write-next : tie.Need-array-write-next Inv-loop μ-loop
+array-write-next c = search needs
+
+add-j : tie.Need-add-j Inv-loop μ-loop
+add-j c = search needs
+
+loop-less : tie.Need-loop-less Inv-loop μ-loop
+loop-less c = search needs
+
+loop-again : tie.Need-loop-again Inv-loop μ-loop
+loop-again c = ((search needs, simp length-set (search needs)), ((search needs, search needs), narrow-next (c .before .before .before .before .before .before .args .names .now) (c .before .before .before .before .before .before .args .counts .now) (c .before .before .before .before .before .before .args .base) (c .before .before .before .before .before .before .args .t3) (c .before .before .before .before .before .before .args .t4) (c .before .before .before .before .before .before .args .l) (c .before .before .before .before .before .before .args .c) _ _ _ _ _ (c .before .before .before .loop .inv .1 .1) (c .before .before .before .loop .inv .0 .1) (c .before .before .loop-test .taken) (c .before .before .before .loop .inv .1 .0 .0) (c .before .before .before .loop .inv .1 .0 .1) refl))
+
+returns : tie.Need-returns Inv-loop μ-loop
+returns c = search set-all
+
+pub narrow-spec : {M : Type 1} → statement M
+narrow-spec =
+    tie.close
+    (tie.spec
+    Inv-loop
+    μ-loop
+    mul-a
+    add-a
+    add-a-2
+    mul-name
+    shared-slice-read-name
+    mul-count
+    shared-slice-read-count
+    loop-holds
+    mul-b
+    add-b
+    add-b-2
+    array-read-next
+    array-read-next-2
+    cast-next
+    mul-next
+    shared-slice-read-next
+    mul-next-2
+    shared-slice-read-next-2
+    array-write-next
+    add-j
+    loop-less
+    loop-again
+    returns)
