@@ -17,10 +17,10 @@ use Rattle.agreement.specs.declared.Answer.the-variants as words
 use Rattle.agreement.specs.declared.Filed.{Filed}
 use Rattle.agreement.specs.declared.FiledProposal.{FiledProposal}
 use Rattle.agreement.specs.declared.Proposals.{Proposals}
-use Rattle.bench.specs.Layout.{shortLists, outOfRange, logsPlace, proposalsPlace}
+use Rattle.bench.specs.Layout.{shortLists, outOfRange, isEven, logsPlace, proposalsPlace}
 use Rattle.bench.specs.Calendar.{lastBeat, logWindow, proposalWindow}
 use Rattle.bench.specs.Calls.{done, took, Opening, Step}
-use Rattle.bench.specs.Record.{freshBench, agreementOf, proposalsOf, beatOf, notAboveLast, idle, beyond, withAgreement, withProposals}
+use Rattle.bench.specs.Record.{freshBench, ofView, agreementOf, proposalsOf, beatOf, notAboveLast, idle, beyond, withEven, withOdd, withAgreement, withProposals}
 use Rattle.bench.specs.ByRecord.{refuse, notOpened, openOf, begunBench, beginOf, fileLog, fileProposal, fileMessage, taken, receives, receiveOf}
 use Rattle.bench.specs.Steps.{Usable}
 use Rattle.bench.specs.Answers.{lentAs, stateOf, startReply, takenReply, OpenGives, BeginGives, ReceiveGives}
@@ -32,6 +32,7 @@ use Rattle.bench.specs.declared.Taken.the-variants as takings
 use Rattle.bench.specs.declared.Received.{Received}
 use Rattle.bench.proofs.Refusals.{open-7, open-8, open-done, begin-9, begin-8, begin-10, begin-20, begin-done, receive-9, receive-8, receive-22, receive-on}
 use Rattle.bench.proofs.TestedLaws.{is-usable}
+use Rattle.bench.proofs.RecordCases.{of-even, of-odd, with-even, with-odd}
 
 -- ---- Open
 
@@ -182,7 +183,7 @@ unfolding takenReply
 word-known a e = rw e refl
 
 module _ (b : Bench) (names counts bytes : List ℕ) (v sender : ℕ) (ns cs : List ℕ) (w : Taken) where
-  pub filed-log : (g : Agreement) (base : ℕ) (f : Filed) (c : Bench) → g ≡ agreementOf b v → base ≡ logsPlace v
+  filed-log : (g : Agreement) (base : ℕ) (f : Filed) (c : Bench) → g ≡ agreementOf b v → base ≡ logsPlace v
       → Files (fileOf g names counts base bytes sender) f ns cs → takenReply w ≡ took (wordOf (f .answer)) → c ≡ withAgreement b v (f .agreement)
       → ReceiveGives (taken (fileLog (stateOf b names counts) bytes v sender)) (record { answer = w; bench = c }) ns cs
   filed-log g base f c h k d a x =
@@ -193,6 +194,16 @@ module _ (b : Bench) (names counts bytes : List ℕ) (v sender : ℕ) (ns cs : L
         nameList = t .nameList;
         countList = t .countList;
       }
+
+  pub filed-even : (r : Bool) (g : Agreement) (base : ℕ) (f : Filed) → r ≡ isEven v → r ≡ true → g ≡ ofView (b .even) v → base ≡ logsPlace v
+      → Files (fileOf g names counts base bytes sender) f ns cs → takenReply w ≡ took (wordOf (f .answer))
+      → ReceiveGives (taken (fileLog (stateOf b names counts) bytes v sender)) (record { answer = w; bench = withEven b (f .agreement) }) ns cs
+  filed-even r g base f e t h k d a = filed-log g base f (withEven b (f .agreement)) (of-even r v e b g t h) k d a (with-even r v e b (f .agreement) t)
+
+  pub filed-odd : (r : Bool) (g : Agreement) (base : ℕ) (f : Filed) → r ≡ isEven v → r ≡ false → g ≡ ofView (b .odd) v → base ≡ logsPlace v
+      → Files (fileOf g names counts base bytes sender) f ns cs → takenReply w ≡ took (wordOf (f .answer))
+      → ReceiveGives (taken (fileLog (stateOf b names counts) bytes v sender)) (record { answer = w; bench = withOdd b (f .agreement) }) ns cs
+  filed-odd r g base f e t h k d a = filed-log g base f (withOdd b (f .agreement)) (of-odd r v e b g t h) k d a (with-odd r v e b (f .agreement) t)
 
   pub filed-proposal : (priority : ℕ) (g : Proposals) (f : FiledProposal) → g ≡ proposalsOf b v
       → FilesProposal (fileProposalOf g names counts proposalsPlace bytes sender priority) f ns cs → takenReply w ≡ took (wordOf (f .answer))

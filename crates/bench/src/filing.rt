@@ -1,4 +1,4 @@
-// Receiving: a message is read, its window looked up, and what it says filed. The same filing serves messages of one's own.
+// Receiving: a message is read, its window looked up, and what it says filed.
 ghost use mathlib.Core.Path.{_≡_};
 ghost use Rattle.message.specs.Message.{logMessage, proposalMessage, means, contentOf, readOf};
 ghost use Rattle.agreement.specs.Filing.{wordOf};
@@ -11,11 +11,11 @@ use super::Received;
 use super::Taken;
 use super::calendar::takes_logs;
 use super::calendar::takes_proposals;
-use super::record::agreement_of;
 use super::record::beat_of;
+use super::record::is_even;
 use super::record::logs_place;
+use super::record::of_view;
 use super::record::proposals_of;
-use super::record::with_agreement;
 use agreement::Answer;
 use message::Head;
 use message::Message;
@@ -31,8 +31,8 @@ fn word(answer: Answer) -> Taken
     }
 }
 
-// The LOG in the bytes, from this sender, in the agreement of view v.
-pub(crate) fn file_log(
+// The LOG in the bytes, from this sender, in the agreement of view v. Each slot has its own branch, which copies that slot alone.
+fn file_log(
     b: Bench,
     names: &mut [u64],
     counts: &mut [u16],
@@ -42,18 +42,32 @@ pub(crate) fn file_log(
 ) -> Received
     ensures { λ r. ⌜ ReceiveGives (taken (fileLog (stateOf b (now (names .entry)) (now (counts .entry))) (now (bytes .entry)) v sender)) r (now (names .exit)) (now (counts .exit)) ⌝ }
 {
-    let g = agreement_of(b, v);
-    let f = agreement::filing::file(g, names, counts, logs_place(v), bytes, sender);
+    let base = logs_place(v);
+    let mut c = b;
+    if is_even(v) {
+        let g = of_view(b.even, v);
+        let f = agreement::filing::file(g, names, counts, base, bytes, sender);
+        let answer = f.answer;
+        let filed = f.agreement;
+        c.even = filed;
+        return Received {
+            answer: word(answer),
+            bench: c,
+        };
+    }
+    let g = of_view(b.odd, v);
+    let f = agreement::filing::file(g, names, counts, base, bytes, sender);
     let answer = f.answer;
     let filed = f.agreement;
+    c.odd = filed;
     Received {
         answer: word(answer),
-        bench: with_agreement(b, v, filed),
+        bench: c,
     }
 }
 
 // The PROPOSAL in the bytes, from this sender and of this priority, among the proposals of view v.
-pub(crate) fn file_proposal(
+fn file_proposal(
     b: Bench,
     names: &mut [u64],
     counts: &mut [u16],

@@ -3,16 +3,19 @@ ghost use Prim.Native.Nat.{_<_};
 ghost use Rattle.message.specs.Limits.{mostBlocks};
 ghost use Rattle.message.specs.Store.{logFrom, proposalFrom};
 ghost use Rattle.bench.specs.Calendar.{proposing, voting};
-ghost use Rattle.bench.specs.ByRecord.{actedOf};
+ghost use Rattle.bench.specs.ByRecord.{fileLog, fileProposal, actedOf};
 ghost use Rattle.bench.specs.Answers.{stateOf, ActGives};
-ghost use Rattle.bench.specs.Steps.{Tested, Making, madeStep, noBlock};
+ghost use Rattle.bench.specs.Steps.{Tested, Making, Leaves, madeStep, noBlock};
 use super::Acted;
 use super::Bench;
 use super::LAST_VIEW;
 use super::MOST_BLOCKS;
 use super::Made;
-use super::filing::file_log;
-use super::filing::file_proposal;
+use super::PROPOSALS_PLACE;
+use super::record::agreement_of;
+use super::record::logs_place;
+use super::record::proposals_of;
+use super::record::with_agreement;
 use super::seeing::Found;
 use super::seeing::ballot;
 use super::seeing::candidate;
@@ -20,6 +23,35 @@ use super::seeing::place_before;
 use agreement::Grade;
 use message::writer::write_log;
 use message::writer::write_proposal;
+
+// The LOG of view v in the bytes, filed as one's own.
+fn file_own_log(b: Bench, names: &mut [u64], counts: &mut [u16], bytes: &[u8], v: u32) -> Bench
+    ensures { λ r. ⌜ Leaves ((fileLog (stateOf b (now (names .entry)) (now (counts .entry))) (now (bytes .entry)) v (b .own)) .held) r (now (names .exit)) (now (counts .exit)) ⌝ }
+{
+    let g = agreement_of(b, v);
+    let f = agreement::filing::file(g, names, counts, logs_place(v), bytes, b.own);
+    let filed = f.agreement;
+    with_agreement(b, v, filed)
+}
+
+// The PROPOSAL in the bytes, of this priority.
+fn file_own_proposal(
+    b: Bench,
+    names: &mut [u64],
+    counts: &mut [u16],
+    bytes: &[u8],
+    v: u32,
+    priority: u64,
+) -> Bench
+    ensures { λ r. ⌜ Leaves ((fileProposal (stateOf b (now (names .entry)) (now (counts .entry))) (now (bytes .entry)) v (b .own) priority) .held) r (now (names .exit)) (now (counts .exit)) ⌝ }
+{
+    let g = proposals_of(b, v);
+    let f = agreement::proposing::file(g, names, counts, PROPOSALS_PLACE, bytes, b.own, priority);
+    let filed = f.proposals;
+    let mut c = b;
+    c.proposals = filed;
+    c
+}
 
 // The LOG of view v of the blocks at place `at`.
 fn make_log(
@@ -37,8 +69,7 @@ fn make_log(
 {
     let own = b.own;
     write_log(out, names, counts, at, blocks as usize, own, v);
-    let filed = file_log(b, names, counts, out, v, own);
-    let bench = filed.bench;
+    let bench = file_own_log(b, names, counts, out, v);
     Acted {
         answer: Made::Log(blocks),
         bench,
@@ -75,8 +106,7 @@ fn make_proposal(
         v,
         priority,
     );
-    let filed = file_proposal(b, names, counts, out, v, own, priority);
-    let bench = filed.bench;
+    let bench = file_own_proposal(b, names, counts, out, v, priority);
     Acted {
         answer: Made::Proposal(blocks + 1),
         bench,

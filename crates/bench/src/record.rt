@@ -49,7 +49,7 @@ pub(crate) fn is_not_above_last(b: Bench, beat: u32) -> bool
 }
 
 // A view of the even slot.
-fn is_even(v: u32) -> bool
+pub(crate) fn is_even(v: u32) -> bool
     ensures { λ r. ⌜ r ≡ isEven v ⌝ }
 {
     v % 2 == 0
@@ -66,7 +66,7 @@ pub(crate) fn logs_place(v: u32) -> u32
 }
 
 // The slot's agreement where it is of view v; else of view v nothing is filed.
-fn of_view(g: Agreement, v: u32) -> Agreement
+pub(crate) fn of_view(g: Agreement, v: u32) -> Agreement
     ensures { λ r. ⌜ r ≡ ofView g v ⌝ }
 {
     if g.view == v {

@@ -2,12 +2,16 @@ use Rattle.bench.proofs.WrittenLaws.{log-acts}
 use borrow.Author.Needs.{needs}
 use Rattle.bench.proofs.making.make_log.Statement.{statement}
 use Rattle.bench.proofs.making.make_log.Tie as tie
+use Rattle.bench.proofs.making.make_log.Reads as reads
+use Rattle.bench.proofs.making.make_log.Lts as lts
+use Rattle.bench.proofs.making.file_own_log.Reads as file-own-log-reads
+use Rattle.message.proofs.writer.write_log.Reads as write-log-reads
 
 write-log-requires : tie.Need-write-log-requires
 write-log-requires c κs = search needs
 
-file-log-requires : tie.Need-file-log-requires
-file-log-requires c κs = search needs
+file-own-log-requires : tie.Need-file-own-log-requires
+file-own-log-requires c κs = search needs
 
 same-length : tie.Need-same-length
 same-length c = search needs
@@ -24,4 +28,10 @@ returns c = search log-acts
 pub make-log-spec : {M : Type 1} → statement M
 make-log-spec =
     tie.close
-    (tie.spec write-log-requires file-log-requires same-length same-length-2 same-length-3 returns)
+    (tie.spec
+    write-log-requires
+    file-own-log-requires
+    same-length
+    same-length-2
+    same-length-3
+    returns)

@@ -2,15 +2,19 @@ use Rattle.bench.proofs.WrittenLaws.{proposal-acts}
 use borrow.Author.Needs.{needs}
 use Rattle.bench.proofs.making.make_proposal.Statement.{statement}
 use Rattle.bench.proofs.making.make_proposal.Tie as tie
+use Rattle.bench.proofs.making.make_proposal.Reads as reads
+use Rattle.bench.proofs.making.make_proposal.Lts as lts
+use Rattle.bench.proofs.making.file_own_proposal.Reads as file-own-proposal-reads
+use Rattle.message.proofs.writer.write_proposal.Reads as write-proposal-reads
 
 write-proposal-requires : tie.Need-write-proposal-requires
 write-proposal-requires c κs = search needs
 
-file-proposal-requires : tie.Need-file-proposal-requires
-file-proposal-requires c κs = search needs
+file-own-proposal-requires : tie.Need-file-own-proposal-requires
+file-own-proposal-requires c κs = search needs
 
-add-t28 : tie.Need-add-t28
-add-t28 c = search needs
+add-t27 : tie.Need-add-t27
+add-t27 c = search needs
 
 same-length : tie.Need-same-length
 same-length c = search needs
@@ -29,8 +33,8 @@ make-proposal-spec =
     tie.close
     (tie.spec
     write-proposal-requires
-    file-proposal-requires
-    add-t28
+    file-own-proposal-requires
+    add-t27
     same-length
     same-length-2
     same-length-3
