@@ -6,7 +6,7 @@ use mathlib.Core.Bool.{Bool, true, _&&_, and-assoc, and-eq-true-iff}
 use mathlib.Core.List.{List, []}
 use mathlib.Core.Logic.{inl, inr}
 use mathlib.Core.Path.{_≡_, refl, sym, ap, subst, _∙_}
-use lib.Dec.{ltb}
+use lib.Dec.{leb, ltb}
 use lib.ListN.{length, getD}
 use Rattle.message.specs.Limits.{mostBlocks}
 use Rattle.message.specs.Logs.{Block, Log, Prefix, sameBlock, isPrefix}
@@ -16,10 +16,10 @@ use Rattle.message.proofs.ListedLaws.{length-at, log-empty, prefix-at, prefix-t
 use Rattle.agreement.specs.Limits.{mostSenders, placeOf}
 use Rattle.agreement.specs.Sets.{ones, count, member}
 use Rattle.agreement.specs.Record.{filedLog}
-use Rattle.agreement.specs.Steps.{SetOf, backing, Majority, nextBlock, narrowed, holding, Voted, Climbing, Following, Climbed}
+use Rattle.agreement.specs.Steps.{SetOf, backing, Majority, nextBlock, narrowed, runLength, alike, narrowedBy, Far, holding, Voted, Climbing, Following, Climbed}
 use Rattle.agreement.specs.declared.Grade.the-variants.{Longest}
 use Rattle.agreement.proofs.SetLaws.{Meet, weigh-mono, weigh-meet, weigh-some, weigh-cong}
-use Rattle.agreement.proofs.NarrowLaws.{and-true, prefix-one-more}
+use Rattle.agreement.proofs.NarrowLaws.{and-true, prefix-one-more, prefix-run}
 
 module _ (names counts : List ℕ) (base : ℕ) (lengths : List ℕ) (may : List Bool) (all : ℕ) where
   -- the first l blocks at sender i's place
@@ -93,6 +93,21 @@ module _ (names counts : List ℕ) (base : ℕ) (lengths : List ℕ) (may : List
           → Following names counts base lengths may all c (l + 1) narrow
       follow-voted c v = follow c (starts c v)
 
+    -- a run of blocks more
+    back-run : (k j : ℕ) → j < mostSenders → narrowedBy names counts base lengths followers l who k j ≡ back (at who (l + k)) j
+    back-run k j h =
+        let n = leb (l + k) (getD lengths j 0) && alike names counts (placeOf base who + l) (placeOf base j + l) k in
+        ap (λ (t : Bool). t && n) (f .at j h)
+        ∙ and-assoc (member may j) (isPrefix (at who l) (log j)) n
+        ∙ ap (λ (t : Bool). member may j && t) (sym (prefix-run names counts (placeOf base who) (placeOf base j) l (getD lengths j 0) k))
+
+    module _ (far : List Bool) (n : ℕ) (r : Far names counts base lengths followers l who far) (q : n ≡ count mostSenders (member far)) (h : all < 2 * n) where
+      pub follow-far : Following names counts base lengths may all who (l + runLength) far
+      follow-far = record { at = λ j k. r .some (omega arith) .1 .at j k ∙ back-run runLength j k; enough = omega arith }
+
+      pub far-few : l + runLength ≤ mostBlocks
+      far-few = r .some (omega arith) .0
+
     -- ---- the end
 
     majority : Majority names counts base lengths may all (at who l)
@@ -137,14 +152,14 @@ module _ (names counts : List ℕ) (base : ℕ) (lengths : List ℕ) (may : List
             let p = backs M s (supporter M h .left) .1 in
             subst (λ (L : Log). Prefix (at s x) L) (sym (prefix-there names counts (placeOf base s) (getD lengths s 0) M p)) (prefix-at names counts (placeOf base s) x (length M) a)
 
-        alike : at s l ≡ at who l
-        alike =
+        level : at s l ≡ at who l
+        level =
             prefix-same (first l (omega arith)) (extends M h (omega arith)) (length-at names counts (placeOf base s) l ∙ sym (length-at names counts (placeOf base who) l))
 
         going : all < 2 * count mostSenders (narrowed names counts base lengths followers l (next l s))
         going =
             let a = weigh-mono mostSenders ones (back M) (back (at s (l + 1))) (back-prefix (first (l + 1) (omega arith))) in
-            let b = weigh-cong mostSenders ones (narrowed names counts base lengths followers l (next l s)) (back (at s (l + 1))) (λ j. back-next s j alike) in
+            let b = weigh-cong mostSenders ones (narrowed names counts base lengths followers l (next l s)) (back (at s (l + 1))) (λ j. back-next s j level) in
             omega arith
 
         -- so the vote has found it

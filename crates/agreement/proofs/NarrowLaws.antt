@@ -1,24 +1,32 @@
--- One block more: which logs start with it, and the array of the followers that have it. Assumes nothing.
-use Prim.Native.Nat.{ℕ, zero, suc, _+_, _<_}
+-- One block more, or a run of them: which logs start so, and the array of the followers whose log does. Assumes nothing.
+use Prim.Native.Nat.{ℕ, zero, suc, _+_, _≤_, _<_}
 use native.Mathlib.Omega.{arith}
-use mathlib.Core.Bool.{Bool, true, false, _&&_, and-assoc}
+use mathlib.Core.Bool.{Bool, true, false, _&&_, and-assoc, false≢true}
 use mathlib.Core.List.{List}
 use mathlib.Core.Path.{_≡_, refl, sym, ap, _∙_}
-use borrow.Author.Tests.{ltb-true, ltb-false, lt-ltb, le-ltb}
-use lib.Dec.{ltb, eqb}
-use lib.ListN.{length, getD, set}
+use borrow.Author.Tests.{ltb-true, ltb-false, lt-ltb, le-ltb, leb-true, le-leb, lt-leb}
+use lib.Dec.{ltb, leb, eqb}
+use lib.ListN.{length, getD, set, replicate}
+use Rattle.message.specs.Limits.{mostBlocks}
 use Rattle.message.specs.Numbers.{part}
 use Rattle.message.specs.Logs.{sameBlock, isPrefix, inStep}
 use Rattle.message.specs.Store.{blockAt, logAt}
 use Rattle.message.proofs.TestLaws.{either}
+use Rattle.message.proofs.LogLaws.{prefix-length, isPrefix-iff}
+use Rattle.message.proofs.ListedLaws.{length-at}
 use Rattle.agreement.specs.Limits.{mostSenders, placeOf}
-use Rattle.agreement.specs.Sets.{member}
-use Rattle.agreement.specs.Steps.{SetOf, nextBlock, narrowed}
+use Rattle.agreement.specs.Sets.{weigh, count, member}
+use Rattle.agreement.specs.Steps.{SetOf, nextBlock, narrowed, runLength, alike, narrowedBy, Far}
 use Rattle.agreement.proofs.CountLaws.{set-next}
 
 pub and-true : (t : Bool) → (t && true) ≡ t
 and-true true = refl
 and-true false = refl
+
+-- to have more than l is to have l + 1
+over : (l m y : ℕ) → m ≡ l + 1 → ltb l y ≡ leb m y
+over l m y e =
+    either (ltb l y) (λ t. t ∙ sym (le-leb m y (let x = ltb-true l y t in omega arith))) (λ t. t ∙ sym (lt-leb m y (let x = ltb-false l y t in omega arith)))
 
 ltb-suc : (l y : ℕ) → ltb l y ≡ ltb (suc l) (suc y)
 ltb-suc l y =
@@ -54,6 +62,79 @@ module _ (names counts : List ℕ) where
   prefix-one-more a b l y =
       let s : l + 1 ≡ suc l = omega arith in
       ap (λ (k : ℕ). isPrefix (logAt names counts a k) (logAt names counts b y)) s ∙ longer a b l y
+
+  -- ---- a run of blocks
+
+  pub alike-none : (a b : ℕ) → true ≡ alike names counts a b 0
+  unfolding alike
+  alike-none a b = refl
+
+  pub alike-next : (a b i : ℕ) (r x : Bool) → r ≡ alike names counts a b i → x ≡ (r && same (a + i) (b + i)) → x ≡ alike names counts a b (i + 1)
+  unfolding alike
+  alike-next a b i r x e f =
+      let s : suc i ≡ i + 1 = omega arith in f ∙ ap (λ (t : Bool). t && same (a + i) (b + i)) e ∙ ap (alike names counts a b) s
+
+  pub alike-all : (a b i : ℕ) (r : Bool) → r ≡ alike names counts a b i → i ≤ runLength → runLength ≤ i → r ≡ alike names counts a b runLength
+  alike-all a b i r e h g = let s : i ≡ runLength = omega arith in e ∙ ap (alike names counts a b) s
+
+  -- a log that is a prefix is not longer
+  short : (a b l y : ℕ) → isPrefix (logAt names counts a l) (logAt names counts b y) ≡ (isPrefix (logAt names counts a l) (logAt names counts b y) && (leb l y && true))
+  short a b l y =
+      either (isPrefix (logAt names counts a l) (logAt names counts b y))
+      (λ t.
+      let p = prefix-length (isPrefix-iff (logAt names counts a l) (logAt names counts b y) .0 t) in
+      let q = length-at names counts a l in
+      let r = length-at names counts b y in
+      let s = le-leb l y (omega arith) in
+      rw (t, s))
+      (λ t. rw t)
+
+  join : (p u v w s : Bool) → (v ≡ true → u ≡ true) → ((p && (u && w)) && (v && s)) ≡ (p && (v && (w && s)))
+  join false u v w s h = refl
+  join true true true w s h = refl
+  join true false true w s h = absurd (false≢true (h refl))
+  join true true false true s h = refl
+  join true true false false s h = refl
+  join true false false w s h = refl
+
+  -- l + k blocks are a prefix of a log where l blocks are, the log has so many, and the next k are the same
+  pub prefix-run : (a b l y k : ℕ) → isPrefix (logAt names counts a (l + k)) (logAt names counts b y)
+      ≡ (isPrefix (logAt names counts a l) (logAt names counts b y) && (leb (l + k) y && alike names counts (a + l) (b + l) k))
+  unfolding alike
+  prefix-run a b l y zero =
+      let s : l ≡ l + 0 = omega arith in
+      ap (λ (n : ℕ). isPrefix (logAt names counts a n) (logAt names counts b y)) (sym s) ∙ short a b l y
+      ∙ ap (λ (n : ℕ). isPrefix (logAt names counts a l) (logAt names counts b y) && (leb n y && true)) s
+  prefix-run a b l y (suc k) =
+      let s : l + suc k ≡ l + k + 1 = omega arith in
+      let p : a + (l + k) ≡ a + l + k = omega arith in
+      let q : b + (l + k) ≡ b + l + k = omega arith in
+      let z = isPrefix (logAt names counts a l) (logAt names counts b y) in
+      let t = over (l + k) (l + suc k) y (omega arith) in
+      ap (λ (n : ℕ). isPrefix (logAt names counts a n) (logAt names counts b y)) s
+      ∙ prefix-one-more a b (l + k) y
+      ∙ ap (λ (u : Bool). u && (ltb (l + k) y && same (a + (l + k)) (b + (l + k)))) (prefix-run a b l y k)
+      ∙ (λ i. (z && (leb (l + k) y && alike names counts (a + l) (b + l) k)) && (t i && same (p i) (q i)))
+      ∙ join z (leb (l + k) y) (leb (l + suc k) y) (alike names counts (a + l) (b + l) k) (same (a + l + k) (b + l + k))
+      (λ h. le-leb (l + k) y (let x = leb-true (l + suc k) y h in omega arith))
+
+  pub run-next : (base : ℕ) (lengths : List ℕ) (followers : List Bool) (l c a j : ℕ) (next : List Bool) (r x : Bool)
+      → SetOf (narrowedBy names counts base lengths followers l c runLength) j next → length next ≡ mostSenders → j < mostSenders
+      → a ≡ placeOf base c + l → r ≡ alike names counts a (placeOf base j + l) runLength
+      → x ≡ (member followers j && (leb (l + runLength) (getD lengths j 0) && r))
+      → SetOf (narrowedBy names counts base lengths followers l c runLength) (j + 1) (set next j x)
+  run-next base lengths followers l c a j next r x h s k e q f =
+      set-next (narrowedBy names counts base lengths followers l c runLength) next x j h s k
+      (f ∙ ap (λ (t : Bool). member followers j && (leb (l + runLength) (getD lengths j 0) && t)) (q ∙ ap (λ (p : ℕ). alike names counts p (placeOf base j + l) runLength) e))
+
+  module _ (base : ℕ) (lengths : List ℕ) (followers : List Bool) (l c : ℕ) where
+    pub far-run : (far : List Bool) → l + runLength ≤ mostBlocks → SetOf (narrowedBy names counts base lengths followers l c runLength) mostSenders far
+        → Far names counts base lengths followers l c far
+    far-run far n s = record { some = λ h. (n, s) }
+
+    pub far-none : Far names counts base lengths followers l c (replicate mostSenders false)
+    unfolding weigh
+    far-none = record { some = λ h. absurd (omega arith) }
 
   -- ---- the loop
 

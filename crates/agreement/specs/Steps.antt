@@ -1,10 +1,10 @@
 -- What functions inside this crate ask and promise each other; nothing outside it depends on these. Assumes nothing.
-use Prim.Native.Nat.{ℕ, _+_, _*_, _≤_, _<_}
+use Prim.Native.Nat.{ℕ, zero, suc, _+_, _*_, _≤_, _<_}
 use mathlib.Core.Bool.{Bool, true, _&&_, not}
 use mathlib.Core.List.{List}
 use mathlib.Core.Logic.{_⊎_}
 use mathlib.Core.Path.{_≡_}
-use lib.Dec.{ltb}
+use lib.Dec.{leb, ltb}
 use lib.ListN.{length, getD}
 use Rattle.message.specs.Limits.{mostBlocks}
 use Rattle.message.specs.Logs.{Block, Log, sameBlock, isPrefix}
@@ -49,6 +49,25 @@ narrowed names counts base lengths followers l x j =
 -- the same, whether or not the log has more than l blocks
 abbrev pub holding : List ℕ → List ℕ → ℕ → List Bool → ℕ → Block → ℕ → Bool
 holding names counts base followers l x j = member followers j && sameBlock x (nextBlock names counts base l j)
+
+-- k blocks at place a are the k blocks at place b
+unfoldable pub alike : List ℕ → List ℕ → ℕ → ℕ → ℕ → Bool
+alike names counts a b zero = true
+alike names counts a b (suc k) = alike names counts a b k && sameBlock (blockAt names counts (a + k)) (blockAt names counts (b + k))
+
+-- how many blocks are looked at together where the majority may go on
+abbrev pub runLength : ℕ
+runLength = 4
+
+-- of the followers, those whose log goes on after l blocks with the next k blocks at sender c's place
+abbrev pub narrowedBy : List ℕ → List ℕ → ℕ → List ℕ → List Bool → ℕ → ℕ → ℕ → ℕ → Bool
+narrowedBy names counts base lengths followers l c k j =
+    member followers j && (leb (l + k) (getD lengths j 0) && alike names counts (placeOf base c + l) (placeOf base j + l) k)
+
+-- that, for a run of blocks, or nobody
+pub record Far (names counts : List ℕ) (base : ℕ) (lengths : List ℕ) (followers : List Bool) (l c : ℕ) (far : List Bool) : Type 0 where
+  pub some : 0 < count mostSenders (member far)
+      → (l + runLength ≤ mostBlocks) × SetOf (narrowedBy names counts base lengths followers l c runLength) mostSenders far
 
 -- one block more at each sender's place lies within the lists
 pub record Next (names counts : List ℕ) (base l : ℕ) : Type 0 where

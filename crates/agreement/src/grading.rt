@@ -1,22 +1,27 @@
-// Reading a grade: the longest log that more than half of all senders support. The majority is followed block by block: its
-// followers are those whose log starts so. One pass over 32 senders a block, three where the sender walked along leaves it.
+// Reading a grade: the longest log that more than half of all senders support. The majority is followed from block to block: its
+// followers are those whose log starts so. One pass over 32 senders serves four blocks where the majority stays with the sender
+// walked along with, and one block where it leaves.
 ghost use mathlib.Core.Path.{_≡_};
-ghost use mathlib.Core.Bool.{_&&_, _||_};
-ghost use Prim.Native.Nat.{_≤_, _<_};
+ghost use mathlib.Core.Bool.{_&&_};
+ghost use Prim.Native.Nat.{_+_, _≤_, _<_};
 ghost use lib.Dec.{ltb};
-ghost use lib.ListN.{getD};
+ghost use lib.ListN.{getD, length};
+ghost use Rattle.message.specs.Limits.{mostBlocks};
 ghost use Rattle.message.specs.Logs.{sameBlock};
 ghost use Rattle.agreement.specs.Limits.{mostSenders};
 ghost use Rattle.agreement.specs.Sets.{share, ones, count, member};
 ghost use Rattle.agreement.specs.Reading.{longest};
-ghost use Rattle.agreement.specs.Record.{isSender, overlong, readingOf};
+ghost use Rattle.agreement.specs.Record.{isSender, readingOf};
 ghost use Rattle.agreement.specs.Grades.{Gives, gradeAmong, gradeZero, gradeOne, gradeTwo};
-ghost use Rattle.agreement.specs.Steps.{Readable, SetOf, Next, nextBlock, narrowed, Voted, Climbing, Climbed};
+ghost use Rattle.agreement.specs.Steps.{Readable, SetOf, Next, nextBlock, narrowed, runLength, alike, narrowedBy, Far, Voted, Climbing, Climbed};
 use super::Agreement;
 use super::Grade;
 use super::MOST_BLOCKS;
 use super::MOST_SENDERS;
 use super::room::lacks_room;
+
+// How many blocks are looked at together where the majority may go on.
+const RUN: usize = 4;
 
 // A test as a number, to be added up.
 fn added(test: bool) -> usize
@@ -106,6 +111,63 @@ fn narrow(
     next
 }
 
+// The run of blocks at a is the run of blocks at b.
+fn same_run(names: &[u64], counts: &[u16], a: usize, b: usize) -> bool
+    requires { ⌜ ((a + runLength ≤ length (now names)) × (b + runLength ≤ length (now names))) × ((a + runLength ≤ length (now counts)) × (b + runLength ≤ length (now counts))) ⌝ }
+    ensures { λ r. ⌜ r ≡ alike (now (names .entry)) (now (counts .entry)) a b runLength ⌝ }
+{
+    let mut same = true;
+    let mut i = 0;
+    while i < RUN {
+        same = same & ((names[a + i] == names[b + i]) & (counts[a + i] == counts[b + i]));
+        i += 1;
+    }
+    same
+}
+
+// Of the followers, those whose log goes on after l blocks with the run of blocks that stands there at sender c's place.
+fn narrow_run(
+    names: &[u64],
+    counts: &[u16],
+    lengths: [u8; 32],
+    followers: [bool; 32],
+    base: u32,
+    l: usize,
+    c: usize,
+) -> [bool; 32]
+    requires { ⌜ (Next (now names) (now counts) base l) × ((l + runLength ≤ mostBlocks) × (c < mostSenders)) ⌝ }
+    ensures { λ r. ⌜ SetOf (narrowedBy (now (names .entry)) (now (counts .entry)) base lengths followers l c runLength) mostSenders r ⌝ }
+{
+    let a = base as usize + MOST_BLOCKS * c + l;
+    let mut next: [bool; 32] = [false; 32];
+    let mut j = 0;
+    while j < MOST_SENDERS {
+        let b = base as usize + MOST_BLOCKS * j + l;
+        next[j] = followers[j] & ((l + RUN <= lengths[j] as usize) & same_run(names, counts, a, b));
+        j += 1;
+    }
+    next
+}
+
+// The same where l is a number of whole runs, and nobody elsewhere: a run in which the majority leaves is taken block by block.
+fn narrow_far(
+    names: &[u64],
+    counts: &[u16],
+    lengths: [u8; 32],
+    followers: [bool; 32],
+    base: u32,
+    l: usize,
+    c: usize,
+) -> [bool; 32]
+    requires { ⌜ (Next (now names) (now counts) base l) × (c < mostSenders) ⌝ }
+    ensures { λ r. ⌜ Far (now (names .entry)) (now (counts .entry)) base lengths followers l c r ⌝ }
+{
+    if l % RUN == 0 {
+        return narrow_run(names, counts, lengths, followers, base, l, c);
+    }
+    [false; 32]
+}
+
 // The blocks that stand after l blocks at two senders' places are the same.
 fn same_next(names: &[u64], counts: &[u16], base: u32, l: usize, i: usize, j: usize) -> bool
     requires { ⌜ (Next (now names) (now counts) base l) × ((i < mostSenders) × (j < mostSenders)) ⌝ }
@@ -151,8 +213,8 @@ fn vote(
     best
 }
 
-// The longest log with the grade, where the empty log has it. Each block is first looked for at `who`, which nearly always stays
-// with the majority; where it has left, a vote tells whom to walk along with, or that nothing longer has the grade.
+// The longest log with the grade, where the empty log has it. The next blocks are first looked for at `who`, which nearly always
+// stays with the majority; where it has left, a vote tells whom to walk along with, or that nothing longer has the grade.
 fn climb(
     names: &[u64],
     counts: &[u16],
@@ -168,19 +230,25 @@ fn climb(
     let mut who = 0;
     let mut l = 0;
     while l < MOST_BLOCKS {
-        let near = narrow(names, counts, lengths, followers, base, l, who);
-        if all < 2 * count_in(near) {
-            followers = near;
-            l += 1;
+        let far = narrow_far(names, counts, lengths, followers, base, l, who);
+        if all < 2 * count_in(far) {
+            followers = far;
+            l += RUN;
         } else {
-            let c = vote(names, counts, followers, base, l, who);
-            let next = narrow(names, counts, lengths, followers, base, l, c);
-            if all < 2 * count_in(next) {
-                followers = next;
-                who = c;
+            let near = narrow(names, counts, lengths, followers, base, l, who);
+            if all < 2 * count_in(near) {
+                followers = near;
                 l += 1;
             } else {
-                return Grade::Longest(who as u8, l as u8);
+                let c = vote(names, counts, followers, base, l, who);
+                let next = narrow(names, counts, lengths, followers, base, l, c);
+                if all < 2 * count_in(next) {
+                    followers = next;
+                    who = c;
+                    l += 1;
+                } else {
+                    return Grade::Longest(who as u8, l as u8);
+                }
             }
         }
     }

@@ -1,4 +1,4 @@
-use Rattle.agreement.proofs.ClimbLaws.{follow-all, follow-same, follow-voted, top-voted, top-full}
+use Rattle.agreement.proofs.ClimbLaws.{follow-all, follow-same, follow-far, far-few, follow-voted, top-voted, top-full}
 use Prim.Native.Nat.{_≤_, _<_, _-_}
 use Rattle.message.specs.Limits.{mostBlocks}
 use Rattle.agreement.specs.Limits.{mostSenders}
@@ -16,8 +16,8 @@ abbrev μ-loop : tie.MeasureT-loop
 loop-holds : tie.Need-loop-holds Inv-loop μ-loop
 loop-holds c = ((search needs, search needs), (search needs, search follow-all))
 
-narrow-requires : tie.Need-narrow-requires Inv-loop μ-loop
-narrow-requires c κs = search needs
+narrow-far-requires : tie.Need-narrow-far-requires Inv-loop μ-loop
+narrow-far-requires c κs = search needs
 
 count-in-requires : tie.Need-count-in-requires Inv-loop μ-loop
 count-in-requires c κs = search needs
@@ -32,13 +32,10 @@ loop-less : tie.Need-loop-less Inv-loop μ-loop
 loop-less c = search needs
 
 loop-again : tie.Need-loop-again Inv-loop μ-loop
-loop-again c = ((search needs, search needs), (search needs, search follow-same))
+loop-again c = ((search far-few, search needs), (search needs, search follow-far))
 
-vote-requires : tie.Need-vote-requires Inv-loop μ-loop
-vote-requires c κs = search needs
-
-narrow-requires-2 : tie.Need-narrow-requires-2 Inv-loop μ-loop
-narrow-requires-2 c κs = search needs
+narrow-requires : tie.Need-narrow-requires Inv-loop μ-loop
+narrow-requires c κs = search needs
 
 count-in-requires-2 : tie.Need-count-in-requires-2 Inv-loop μ-loop
 count-in-requires-2 c κs = search needs
@@ -53,22 +50,43 @@ loop-less-2 : tie.Need-loop-less-2 Inv-loop μ-loop
 loop-less-2 c = search needs
 
 loop-again-2 : tie.Need-loop-again-2 Inv-loop μ-loop
-loop-again-2 c = ((search needs, search needs), (search needs, search follow-voted))
+loop-again-2 c = ((search needs, search needs), (search needs, follow-same _ _ _ _ _ _ _ _ _ (c .before .before .before .before .before .before .before .loop .inv .1 .1) _ _ (c .before .count-in2 .ensures .0) (c .before .before .narrow .ensures) (c .if2 .taken)))
 
-cast-t19 : tie.Need-cast-t19 Inv-loop μ-loop
-cast-t19 c = search needs
+vote-requires : tie.Need-vote-requires Inv-loop μ-loop
+vote-requires c κs = search needs
 
-cast-t20 : tie.Need-cast-t20 Inv-loop μ-loop
-cast-t20 c = search needs
+narrow-requires-2 : tie.Need-narrow-requires-2 Inv-loop μ-loop
+narrow-requires-2 c κs = search needs
+
+count-in-requires-3 : tie.Need-count-in-requires-3 Inv-loop μ-loop
+count-in-requires-3 c κs = search needs
+
+mul-if3 : tie.Need-mul-if3 Inv-loop μ-loop
+mul-if3 c = search needs
+
+add-l-3 : tie.Need-add-l-3 Inv-loop μ-loop
+add-l-3 c = search needs
+
+loop-less-3 : tie.Need-loop-less-3 Inv-loop μ-loop
+loop-less-3 c = search needs
+
+loop-again-3 : tie.Need-loop-again-3 Inv-loop μ-loop
+loop-again-3 c = ((search needs, search needs), (search needs, follow-voted _ _ _ _ _ _ _ _ _ (c .before .before .before .before .before .before .before .before .before .before .before .loop .inv .1 .1) _ _ (c .before .count-in3 .ensures .0) _ (c .before .before .before .vote .ensures) (c .before .before .narrow2 .ensures) (c .if3 .taken)))
+
+cast-t23 : tie.Need-cast-t23 Inv-loop μ-loop
+cast-t23 c = search needs
+
+cast-t24 : tie.Need-cast-t24 Inv-loop μ-loop
+cast-t24 c = search needs
 
 returns : tie.Need-returns Inv-loop μ-loop
-returns c = top-voted _ _ _ _ _ _ _ _ _ (c .before .before .before .before .before .before .before .before .loop .inv .1 .1) (c .before .before .before .before .before .before .before .before .loop .inv .1 .0) _ _ _ (c .before .before .before .vote .ensures) (c .before .before .narrow2 .ensures) (c .before .count-in2 .ensures .0) (c .if2 .left) (search needs) (search needs)
+returns c = top-voted _ _ _ _ _ _ _ _ _ (c .before .before .before .before .before .before .before .before .before .before .before .loop .inv .1 .1) (c .before .before .before .before .before .before .before .before .before .before .before .loop .inv .1 .0) _ _ _ (c .before .before .before .vote .ensures) (c .before .before .narrow2 .ensures) (c .before .count-in3 .ensures .0) (c .if3 .left) (search needs) (search needs)
 
-cast-t21 : tie.Need-cast-t21 Inv-loop μ-loop
-cast-t21 c = search needs
+cast-t25 : tie.Need-cast-t25 Inv-loop μ-loop
+cast-t25 c = search needs
 
-cast-t22 : tie.Need-cast-t22 Inv-loop μ-loop
-cast-t22 c = search needs
+cast-t26 : tie.Need-cast-t26 Inv-loop μ-loop
+cast-t26 c = search needs
 
 returns-2 : tie.Need-returns-2 Inv-loop μ-loop
 returns-2 c = search top-full
@@ -80,22 +98,28 @@ climb-spec =
     Inv-loop
     μ-loop
     loop-holds
-    narrow-requires
+    narrow-far-requires
     count-in-requires
     mul-if1
     add-l
     loop-less
     loop-again
-    vote-requires
-    narrow-requires-2
+    narrow-requires
     count-in-requires-2
     mul-if2
     add-l-2
     loop-less-2
     loop-again-2
-    cast-t19
-    cast-t20
+    vote-requires
+    narrow-requires-2
+    count-in-requires-3
+    mul-if3
+    add-l-3
+    loop-less-3
+    loop-again-3
+    cast-t23
+    cast-t24
     returns
-    cast-t21
-    cast-t22
+    cast-t25
+    cast-t26
     returns-2)

@@ -1,0 +1,91 @@
+use Rattle.agreement.proofs.CountLaws.{set-none, set-all}
+use Rattle.agreement.proofs.NarrowLaws.{run-next}
+use Prim.Native.Nat.{_+_, _≤_, _-_}
+use mathlib.Core.Path.{_≡_, refl}
+use lib.ListN.{length, length-set}
+use Rattle.agreement.specs.Limits.{mostSenders, placeOf}
+use Rattle.agreement.specs.Steps.{SetOf, runLength, narrowedBy}
+use borrow.Author.Needs.{needs}
+use Rattle.agreement.proofs.grading.narrow_run.Statement.{statement}
+use Rattle.agreement.proofs.grading.narrow_run.Tie as tie
+
+abbrev Inv-loop : tie.InvT-loop
+Inv-loop names counts base l c lengths followers a next₀ j₀ next j = ((j ≤ mostSenders) × (length next ≡ mostSenders)) × ((a ≡ placeOf base c + l) × SetOf (narrowedBy names counts base lengths followers l c runLength) j next)
+
+abbrev μ-loop : tie.MeasureT-loop
+μ-loop names counts base l c lengths followers a next₀ j₀ next j = mostSenders - j
+
+mul-a : tie.Need-mul-a Inv-loop μ-loop
+mul-a c = search needs
+
+add-a : tie.Need-add-a Inv-loop μ-loop
+add-a c = search needs
+
+add-a-2 : tie.Need-add-a-2 Inv-loop μ-loop
+add-a-2 c = search needs
+
+loop-holds : tie.Need-loop-holds Inv-loop μ-loop
+loop-holds c = ((search needs, refl), (refl, set-none _ _))
+
+mul-b : tie.Need-mul-b Inv-loop μ-loop
+mul-b c = search needs
+
+add-b : tie.Need-add-b Inv-loop μ-loop
+add-b c = search needs
+
+add-b-2 : tie.Need-add-b-2 Inv-loop μ-loop
+add-b-2 c = search needs
+
+array-read-next : tie.Need-array-read-next Inv-loop μ-loop
+array-read-next c = search needs
+
+add-next : tie.Need-add-next Inv-loop μ-loop
+add-next c = search needs
+
+array-read-next-2 : tie.Need-array-read-next-2 Inv-loop μ-loop
+array-read-next-2 c = search needs
+
+cast-next : tie.Need-cast-next Inv-loop μ-loop
+cast-next c = search needs
+
+same-run-requires : tie.Need-same-run-requires Inv-loop μ-loop
+same-run-requires c κs = search needs
+
+array-write-next : tie.Need-array-write-next Inv-loop μ-loop
+array-write-next c = search needs
+
+add-j : tie.Need-add-j Inv-loop μ-loop
+add-j c = search needs
+
+loop-less : tie.Need-loop-less Inv-loop μ-loop
+loop-less c = search needs
+
+loop-again : tie.Need-loop-again Inv-loop μ-loop
+loop-again c = ((search needs, simp length-set (search needs)), (search needs, search run-next))
+
+returns : tie.Need-returns Inv-loop μ-loop
+returns c = search set-all
+
+pub narrow-run-spec : {M : Type 1} → statement M
+narrow-run-spec =
+    tie.close
+    (tie.spec
+    Inv-loop
+    μ-loop
+    mul-a
+    add-a
+    add-a-2
+    loop-holds
+    mul-b
+    add-b
+    add-b-2
+    array-read-next
+    add-next
+    array-read-next-2
+    cast-next
+    same-run-requires
+    array-write-next
+    add-j
+    loop-less
+    loop-again
+    returns)
