@@ -16,16 +16,17 @@ use Rattle.agreement.specs.Grades.{Gives}
 use Rattle.agreement.specs.declared.Agreement.{Agreement}
 use Rattle.agreement.specs.declared.Grade.{Grade}
 use Rattle.agreement.specs.declared.Grade.the-variants.{Longest, Nothing}
-use Rattle.bench.specs.Layout.{logsPlace, decidedPlace}
+use Rattle.bench.specs.Layout.{isEven, logsPlace, decidedPlace}
 use Rattle.bench.specs.Calendar.{lastView, deciding}
 use Rattle.bench.specs.Calls.{State}
-use Rattle.bench.specs.Record.{agreementOf, withAgreement, withDecided, withParted}
+use Rattle.bench.specs.Record.{ofView, agreementOf, withEven, withOdd, withAgreement, withDecided, withParted}
 use Rattle.bench.specs.ByRecord.{decisionOf, settled, snappedOne, snappedTwo, changed}
 use Rattle.bench.specs.Answers.{lentAs, stateOf}
 use Rattle.bench.specs.Steps.{Usable, Before, Leaves, Snaps}
 use Rattle.bench.specs.declared.Bench.{Bench}
 use Rattle.bench.proofs.SeeingLaws.{seen-none, seen-at}
 use Rattle.bench.proofs.TestedLaws.{within-limits, before-within, decided-within}
+use Rattle.bench.proofs.RecordCases.{of-even, of-odd, with-even, with-odd}
 
 -- ---- a log of k blocks at place a is decided
 
@@ -102,13 +103,27 @@ module _ (b : Bench) (v : ℕ) where
   snap-two-past h = record { whole = λ names counts. rw (lt-leb v lastView h) refl }
 
   module _ (g h : Agreement) (c : Bench) (early : v ≤ lastView) (e : g ≡ agreementOf b v) (s : c ≡ withAgreement b v h) where
-    pub snap-one-taken : h ≡ withOne g → Snaps (snappedOne v) b c
+    snap-one-taken : h ≡ withOne g → Snaps (snappedOne v) b c
     unfolding snappedOne
     snap-one-taken t = record { whole = λ names counts. rw (le-leb v lastView early, s, t, e) refl }
 
-    pub snap-two-taken : h ≡ withTwo g → Snaps (snappedTwo v) b c
+    snap-two-taken : h ≡ withTwo g → Snaps (snappedTwo v) b c
     unfolding snappedTwo
     snap-two-taken t = record { whole = λ names counts. rw (le-leb v lastView early, s, t, e) refl }
+
+  -- by the slot
+  module _ (r : Bool) (e : r ≡ isEven v) (g h : Agreement) (early : v ≤ lastView) where
+    pub snap-one-even : r ≡ true → g ≡ ofView (b .even) v → h ≡ withOne g → Snaps (snappedOne v) b (withEven b h)
+    snap-one-even t q s = snap-one-taken g h (withEven b h) early (of-even r v e b g t q) (with-even r v e b h t) s
+
+    pub snap-one-odd : r ≡ false → g ≡ ofView (b .odd) v → h ≡ withOne g → Snaps (snappedOne v) b (withOdd b h)
+    snap-one-odd t q s = snap-one-taken g h (withOdd b h) early (of-odd r v e b g t q) (with-odd r v e b h t) s
+
+    pub snap-two-even : r ≡ true → g ≡ ofView (b .even) v → h ≡ withTwo g → Snaps (snappedTwo v) b (withEven b h)
+    snap-two-even t q s = snap-two-taken g h (withEven b h) early (of-even r v e b g t q) (with-even r v e b h t) s
+
+    pub snap-two-odd : r ≡ false → g ≡ ofView (b .odd) v → h ≡ withTwo g → Snaps (snappedTwo v) b (withOdd b h)
+    snap-two-odd t q s = snap-two-taken g h (withOdd b h) early (of-odd r v e b g t q) (with-odd r v e b h t) s
 
 -- ---- it decides first, and then takes its snapshot
 

@@ -8,8 +8,8 @@ ghost use Rattle.bench.specs.Steps.{Usable, Before, Leaves, Snaps};
 use super::Bench;
 use super::DECIDED_PLACE;
 use super::LAST_VIEW;
-use super::record::agreement_of;
-use super::record::with_agreement;
+use super::record::is_even;
+use super::record::of_view;
 use super::seeing::decision;
 use super::seeing::place_before;
 use agreement::Grade;
@@ -48,15 +48,24 @@ fn decide(b: Bench, names: &mut [u64], counts: &mut [u16], v: u32) -> Bench
     settle(b, names, counts, at, blocks)
 }
 
-// Snapshot one of view v is taken, where there is such a view.
+// Snapshot one of view v is taken, where there is such a view. As in filing, each slot has its own branch.
 fn snap_one(b: Bench, v: u32) -> Bench
     ensures { λ r. ⌜ Snaps (snappedOne v) b r ⌝ }
 {
     if LAST_VIEW < v {
         return b;
     }
-    let g = agreement_of(b, v);
-    with_agreement(b, v, agreement::snap_one(g))
+    let mut c = b;
+    if is_even(v) {
+        let g = of_view(b.even, v);
+        let h = agreement::snap_one(g);
+        c.even = h;
+        return c;
+    }
+    let g = of_view(b.odd, v);
+    let h = agreement::snap_one(g);
+    c.odd = h;
+    c
 }
 
 // Snapshot two.
@@ -66,8 +75,17 @@ pub(crate) fn snap_two(b: Bench, v: u32) -> Bench
     if LAST_VIEW < v {
         return b;
     }
-    let g = agreement_of(b, v);
-    with_agreement(b, v, agreement::snap_two(g))
+    let mut c = b;
+    if is_even(v) {
+        let g = of_view(b.even, v);
+        let h = agreement::snap_two(g);
+        c.even = h;
+        return c;
+    }
+    let g = of_view(b.odd, v);
+    let h = agreement::snap_two(g);
+    c.odd = h;
+    c
 }
 
 // The deciding act of view v: it decides first, and then takes its snapshot.
