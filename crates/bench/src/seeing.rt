@@ -1,4 +1,5 @@
-// What an act sees of the agreement before, by the grade's answer, and the log it votes for.
+// What an act sees of the agreement before, by the grade's answer, and the log it votes for. Each slot has its own branch, which
+// copies that slot alone.
 ghost use mathlib.Core.Path.{_≡_};
 ghost use Prim.Native.Nat.{_-_};
 ghost use Rattle.agreement.specs.Limits.{placeOf};
@@ -10,8 +11,9 @@ ghost use Rattle.bench.specs.Steps.{Usable, Finds, ballotOf};
 use super::Bench;
 use super::MOST_BLOCKS;
 use super::PROPOSALS_PLACE;
-use super::record::agreement_of;
+use super::record::is_even;
 use super::record::logs_place;
+use super::record::of_view;
 use super::record::proposals_of;
 use agreement::Choice;
 use agreement::Grade;
@@ -41,7 +43,11 @@ pub(crate) fn candidate(b: Bench, names: &[u64], counts: &[u16], v: u32) -> Grad
         return Grade::Longest(0, 0);
     }
     let base = logs_place(v - 1);
-    let g = agreement_of(b, v - 1);
+    if is_even(v - 1) {
+        let g = of_view(b.even, v - 1);
+        return agreement::grading::zero(g, names, counts, base);
+    }
+    let g = of_view(b.odd, v - 1);
     agreement::grading::zero(g, names, counts, base)
 }
 
@@ -53,7 +59,11 @@ fn lock(b: Bench, names: &[u64], counts: &[u16], v: u32) -> Grade
         return Grade::Longest(0, 0);
     }
     let base = logs_place(v - 1);
-    let g = agreement_of(b, v - 1);
+    if is_even(v - 1) {
+        let g = of_view(b.even, v - 1);
+        return agreement::grading::one(g, names, counts, base);
+    }
+    let g = of_view(b.odd, v - 1);
     agreement::grading::one(g, names, counts, base)
 }
 
@@ -65,7 +75,11 @@ pub(crate) fn decision(b: Bench, names: &[u64], counts: &[u16], v: u32) -> Grade
         return Grade::Nothing;
     }
     let base = logs_place(v - 1);
-    let g = agreement_of(b, v - 1);
+    if is_even(v - 1) {
+        let g = of_view(b.even, v - 1);
+        return agreement::grading::two(g, names, counts, base);
+    }
+    let g = of_view(b.odd, v - 1);
     agreement::grading::two(g, names, counts, base)
 }
 
