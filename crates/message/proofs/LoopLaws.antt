@@ -7,7 +7,7 @@ use mathlib.Core.List.{List, _∷_}
 use mathlib.Core.Bool.{Bool, true, false, _||_}
 use lib.Dec.{leb, eqb}
 use lib.ListN.{getD, set}
-use borrow.Author.Tests.{eq-eqb, ne-eqb, le-leb, lt-leb, leb-true, leb-false}
+use borrow.Author.Tests.{le-leb, lt-leb, leb-true, leb-false}
 use lib.Seq.{getD-set-other}
 use Rattle.message.specs.Choice.{some}
 use Rattle.message.specs.Message.{anyZero}
@@ -76,16 +76,27 @@ zero-step : (w : ℕ) (s : List ℕ) (p left : ℕ) → 0 < left
 unfolding some
 zero-step w s p left h = ap anyZero (numbers-step w s p left h)
 
-module _ (w : ℕ) (z : Bool) (s : List ℕ) (p left : ℕ) (e : z ≡ anyZero (numbersAt w s p left)) where
-  pub zero-found : (x : ℕ) → 0 < left → x ≡ numberAt w s p → x ≡ 0 → true ≡ z
-  zero-found x h q f = sym (e ∙ zero-step w s p left h ∙ rw (eq-eqb (numberAt w s p) 0 (sym q ∙ f)))
+or-next : (a b c : Bool) → (a || (b || c)) ≡ ((a || b) || c)
+or-next true b c = refl
+or-next false b c = refl
 
-  pub zero-next : (x : ℕ) → 0 < left → x ≡ numberAt w s p → (x ≡ 0 → ⊥) → z ≡ anyZero (numbersAt w s (p + w) (left - 1))
-  zero-next x h q f = e ∙ zero-step w s p left h ∙ rw (ne-eqb (numberAt w s p) 0 (λ g. f (q ∙ g)))
+or-last : (a : Bool) → a ≡ (a || false)
+or-last true = refl
+or-last false = refl
 
-  pub zero-none : left ≤ 0 → false ≡ z
+-- b where one was zero before place p
+module _ (w : ℕ) (z b : Bool) (s : List ℕ) (p left : ℕ) (e : z ≡ (b || anyZero (numbersAt w s p left))) where
+  pub zero-next : (x : ℕ) → 0 < left → x ≡ numberAt w s p → z ≡ ((b || eqb x 0) || anyZero (numbersAt w s (p + w) (left - 1)))
+  zero-next x h q =
+      e ∙ ap (λ (y : Bool). b || y) (zero-step w s p left h)
+      ∙ or-next b (eqb (numberAt w s p) 0) (anyZero (numbersAt w s (p + w) (left - 1)))
+      ∙ rw q
+
+  pub zero-end : left ≤ 0 → b ≡ z
   unfolding numbersAt some
-  zero-none h = let l : left ≡ 0 = omega arith in sym (e ∙ ap (λ (k : ℕ). anyZero (numbersAt w s p k)) l)
+  zero-end h =
+      let l : left ≡ 0 = omega arith in
+      or-last b ∙ sym (e ∙ ap (λ (k : ℕ). b || anyZero (numbersAt w s p k)) l)
 
 -- ---- writing numbers, w bytes each
 

@@ -27,21 +27,20 @@ fn is_malformed(s: &[u8]) -> bool
         | (!(s[3] == 0) | ((kind == LOG_KIND) & !(u64_at(s, 8) == 0)))
 }
 
-// One of the k names is zero.
+// One of the k names is zero. All are looked at, without a branch.
 fn zero_named(s: &[u8], k: usize) -> bool
     requires { ⌜ headLength + nameWidth * k ≤ length (now s) ⌝ }
     ensures { λ r. ⌜ r ≡ anyZero (namesIn (now (s .entry)) k) ⌝ }
 {
     let mut left = k;
     let mut p = HEAD_LENGTH;
+    let mut zero = false;
     while 0 < left {
-        if u64_at(s, p) == 0 {
-            return true;
-        }
+        zero = zero | (u64_at(s, p) == 0);
         p += NAME_WIDTH;
         left -= 1;
     }
-    false
+    zero
 }
 
 // What the bytes mean in a register of n benches, or the first refusal of 1 to 6 that holds.
