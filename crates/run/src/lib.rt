@@ -33,7 +33,8 @@ pub struct Offer {
 }
 
 // The text of a roll, at the front of the lent buffer, and how many bytes it has. A buffer shorter than the longest roll is left as
-// it was, and the answer is 0.
+// it was, and the answer is 0. In C: size_t cervakho_roll_text(const uint8_t *roll, size_t roll_length, uint8_t *text, size_t
+// text_length).
 #[no_mangle]
 pub extern "C" fn cervakho_roll_text(roll: &[u8], text: &mut [u8]) -> usize
     ensures { λ r. ⌜ WritesText (now (roll .entry)) (now (text .entry)) r (now (text .exit)) ⌝ }
