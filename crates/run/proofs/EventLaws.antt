@@ -10,6 +10,7 @@ use Rattle.message.specs.Numbers.{put, numberIn}
 use Rattle.message.specs.Logs.{Block}
 use Rattle.message.proofs.PartLaws.{put-append, length-put}
 use Rattle.message.proofs.Acceptance.{length-blocks}
+use Rattle.message.proofs.TestLaws.{either}
 use Rattle.bench.specs.Layout.{Lent}
 use Rattle.bench.specs.Calls.{Call, begin, receive, act, refused, done, State, Opening, Step}
 use Rattle.bench.specs.ByRecord.{openOf, beginOf, receiveOf, actOf}
@@ -27,7 +28,7 @@ use Rattle.bench.specs.declared.Acted.{Acted}
 use Rattle.run.specs.declared.Offer.{Offer}
 use Rattle.run.specs.Texts.{ascii, decimal}
 use Rattle.run.specs.Roll.{mostRoll, misshapen, eventsOf, benchesOf, ownOf, kindAt, lengthAt, beginKind, receiveKind, freshBuffer, callAt, callsFrom, callsOf}
-use Rattle.run.specs.RollText.{madeText, markText, replyText, lineFor, lineOf, stepOf, linesOf, noRollText, firstLine, openedText, freshLists, textOf, WritesText}
+use Rattle.run.specs.RollText.{madeText, markText, replyText, lineFor, lineOf, stepOf, linesOf, noRollText, firstLine, isDone, openedText, freshLists, textOf, WritesText}
 use Rattle.run.specs.RollSteps.{lineRoom, endText, startText, takenText, standText, actedText, offerAt, Puts, Remains, Prints}
 use Rattle.run.proofs.TextLaws.{puts-then}
 
@@ -228,3 +229,13 @@ module _ (s before : List ℕ) where
         → WritesText s before q after
     unfolding textOf
     text-whole e f k = text-is (rw (← t, e) f) k
+
+-- so an answer of 0 says that the buffer is too short, and nothing else
+opened-some : (s : List ℕ) (l : Lent) (o : Opening) → 0 < length (openedText s l o)
+unfolding openedText firstLine
+opened-some s l o = either (isDone (o .reply)) (λ did. rw did (omega arith)) (λ not. rw not (omega arith))
+
+pub text-some : (s : List ℕ) → 0 < length (textOf s)
+unfolding textOf
+text-some s =
+    either (misshapen s) (λ t. rw t (omega arith)) (λ t. rw t (opened-some s freshLists (openOf (benchesOf s) (ownOf s) freshLists)))

@@ -87,15 +87,19 @@ misshapen s =
 abbrev pub freshBuffer : List ℕ
 freshBuffer = replicate mostBytes 0
 
+-- an act's body at place a: "name 8, priority 8, count 2"
 abbrev pub offeredAt : List ℕ → ℕ → Block
 offeredAt s a = record { name = numberIn 8 s a; count = numberIn 2 s (a + 16) }
+
+abbrev pub priorityAt : List ℕ → ℕ → ℕ
+priorityAt s a = numberIn 8 s (a + 8)
 
 -- event i, whose body starts at place a
 unfoldable pub callAt : List ℕ → ℕ → ℕ → Call
 callAt s i a =
     pick (eqb (kindAt s i) beginKind) (begin (numberIn 4 s a))
     (pick (eqb (kindAt s i) receiveKind) (receive (take (lengthAt s i) (drop a s)))
-    (act (offeredAt s a) (numberIn 8 s (a + 8)) freshBuffer))
+    (act (offeredAt s a) (priorityAt s a) freshBuffer))
 
 -- the m events from event i on
 unfoldable pub callsFrom : List ℕ → ℕ → ℕ → ℕ → List Call

@@ -1,10 +1,10 @@
 -- What the inner functions of the roll's text ask and give: no reader needs it to believe the text. Assumes nothing.
-use Prim.Native.Nat.{ℕ, _+_, _≤_, _<_}
+use Prim.Native.Nat.{ℕ, _+_, _≤_}
 use mathlib.Core.Bool.{Bool, false}
 use mathlib.Core.List.{List, _++_}
 use mathlib.Core.Path.{_≡_}
 use lib.ListN.{length}
-use Rattle.message.specs.Numbers.{put, numberIn}
+use Rattle.message.specs.Numbers.{put}
 use Rattle.bench.specs.Calls.{Call, Step}
 use Rattle.bench.specs.declared.Start.{Start}
 use Rattle.bench.specs.declared.Start.the-variants as starts
@@ -15,7 +15,7 @@ use Rattle.bench.specs.declared.Made.the-variants as makings
 use Rattle.bench.specs.declared.Bench.{Bench}
 use Rattle.run.specs.declared.Offer.{Offer}
 use Rattle.run.specs.Texts.{ascii, decimal}
-use Rattle.run.specs.Roll.{mostRoll, mostEvents, sizesLength, eventsOf, markPlace, lengthAt, bodiesPlace, misfits}
+use Rattle.run.specs.Roll.{mostRoll, mostEvents, sizesLength, eventsOf, markPlace, lengthAt, bodiesPlace, misfits, offeredAt, priorityAt}
 use Rattle.run.specs.RollText.{markText, lineOf}
 
 -- the bytes that a line is given room for
@@ -69,9 +69,9 @@ pub record Prints (c : Call) (t : Step) (at : ℕ) (before : List ℕ) (b : Benc
 
 -- ---- what is read
 
--- the body of an Act at place a
+-- the body of an Act at place a, as the code holds it
 unfoldable pub offerAt : List ℕ → ℕ → Offer
-offerAt s a = record { name = numberIn 8 s a; priority = numberIn 8 s (a + 8); count = numberIn 2 s (a + 16) }
+offerAt s a = record { name = offeredAt s a .name; priority = priorityAt s a; count = offeredAt s a .count }
 
 -- ---- what is asked
 

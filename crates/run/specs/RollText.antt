@@ -110,7 +110,7 @@ abbrev pub scantBuffer : List ℕ → Bool
 scantBuffer before = ltb (length before) mostRoll
 
 -- The text stands at the front of the lent buffer, whole, and all else there is as it was. Into a buffer that is too short nothing is written, and the
--- answer is 0; no text is empty.
+-- answer is 0, which no text's length is (EventLaws: text-some).
 pub record WritesText (s before : List ℕ) (r : ℕ) (after : List ℕ) : Type 0 where
   pub answered : r ≡ pick (scantBuffer before) 0 (length (textOf s))
   pub fits : r ≤ length after
