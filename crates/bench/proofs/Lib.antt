@@ -35,6 +35,8 @@ pub mod DecidingLaws
 pub mod WrittenLaws
 pub mod MakingLaws
 pub mod ActCases
+-- Calls on a lent record:
+pub mod LentSteps
 -- Worked examples:
 pub mod Odd
 pub mod Order

@@ -5,6 +5,7 @@ mod beginning;
 mod calendar;
 mod deciding;
 mod filing;
+pub mod lent;
 mod limits;
 mod making;
 mod record;
