@@ -14,7 +14,7 @@ use lib.ListN.{length, getD, drop, length-append}
 use Rattle.message.specs.Limits.{mostBlocks, lastView}
 use Rattle.message.specs.Choice.{pick}
 use Rattle.message.specs.Logs.{Block, Log}
-use Rattle.message.specs.Message.{Meaning, logOf, bytesOf}
+use Rattle.message.specs.Message.{Meaning, logOf, bytesOf, Reading, refused as unread, means, readOf}
 use Rattle.message.proofs.TestLaws.{either, or-false}
 use Rattle.message.proofs.LogLaws.{prefix-length}
 use Rattle.message.proofs.ListedLaws.{length-at}
@@ -33,11 +33,11 @@ use Rattle.agreement.proofs.ReadingLaws.{grade-supporter}
 use Rattle.agreement.proofs.LongestLaws.{longest-iff, record-heard}
 use Rattle.agreement.proofs.GradeSources.{vote-from}
 use Rattle.bench.specs.Layout.{logsPlace, proposalsPlace, mostBytes, shortLists}
-use Rattle.bench.specs.Calendar.{viewOf, placeIn, Act, proposing, voting, deciding, snapping, actAt}
-use Rattle.bench.specs.Calls.{Reply, refused, done, took, acted, State}
+use Rattle.bench.specs.Calendar.{lastBeat, viewOf, placeIn, Act, proposing, voting, deciding, snapping, actAt}
+use Rattle.bench.specs.Calls.{Reply, refused, done, took, acted, State, openTo}
 use Rattle.bench.specs.Acts.{mayPropose, propose, vote, isView, inViews, makes, outAfter}
-use Rattle.bench.specs.Record.{agreementOf, proposalsOf, beatOf, idle, tooLong, badProposer, anyPlace, beyondProposals, beyond}
-use Rattle.bench.specs.ByRecord.{lockOf, seenOf, over, actedOf, actOf}
+use Rattle.bench.specs.Record.{agreementOf, proposalsOf, beatOf, notAboveLast, idle, tooLong, badProposer, anyPlace, beyondProposals, beyond}
+use Rattle.bench.specs.ByRecord.{beginOf, receives, receiveOf, lockOf, seenOf, over, actedOf, actOf}
 use Rattle.bench.specs.declared.Bench.{Bench}
 use Rattle.bench.proofs.TestedLaws.{within-limits}
 use Rattle.bench.proofs.Fine.{no-place}
@@ -172,6 +172,26 @@ fits out none h r = tt
 fits out (some m) h r = (h, let l = length-message m in omega arith)
 
 -- ---- the Act
+
+-- Begin and Receive have no buffer.
+pub begin-out : (s : State) (beat : ℕ) → beginOf s beat .answer .out ≡ []
+unfolding beginOf
+begin-out s beat =
+    either (beyond (s .bench)) (λ e. rw e) (λ e.
+    either (shortLists (s .lent)) (λ f. rw (e, f)) (λ f.
+    either (ltb lastBeat beat) (λ g. rw (e, f, g)) (λ g.
+    either (notAboveLast (s .bench) beat) (λ h. rw (e, f, g, h)) (λ h. rw (e, f, g, h)))))
+
+receives-out : (s : State) (bytes : List ℕ) (r : Reading) → receives s bytes r .answer .out ≡ []
+receives-out s bytes (unread k) = refl
+receives-out s bytes (means m) = either (not (openTo m (beatOf (s .bench)))) (λ e. rw e) (λ e. rw e)
+
+pub receive-out : (s : State) (bytes : List ℕ) → receiveOf s bytes .answer .out ≡ []
+unfolding receiveOf
+receive-out s bytes =
+    either (beyond (s .bench)) (λ e. rw e) (λ e.
+    either (shortLists (s .lent)) (λ f. rw (e, f)) (λ f.
+    either (idle (s .bench)) (λ g. rw (e, f, g)) (λ g. rw (e, f, g) (receives-out s bytes (readOf (s .bench .n) bytes)))))
 
 module _ (s : State) (block : Block) (priority : ℕ) (out : List ℕ) where
   -- one equation, refused Acts included

@@ -1,5 +1,6 @@
 // One bench: its record and its four calls. Names and counts of blocks stand in two lent lists beside it. What each call gives is
-// defined in specs/ByRecord.antt, for every record, list, message and buffer; a refused call changes nothing.
+// defined in specs/ByRecord.antt, for every record, list, message and buffer; a refused call changes nothing. lent.rt has three of
+// the calls on a lent record.
 mod acts;
 mod beginning;
 mod calendar;

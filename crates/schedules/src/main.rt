@@ -3,6 +3,7 @@
 mod form;
 mod opening;
 mod print;
+mod row;
 mod schedule;
 
 use form::empty_log;
@@ -182,6 +183,35 @@ fn last_beats() {
         .end();
 }
 
+// ---- on a lent record
+
+// Begin, a message and Act on one record, in a row: as by value, refused calls too.
+fn lent_rows() {
+    fresh().begin(1).take(log(0, 1, 5)).act().end();
+    fresh().lent(1, log(0, 1, 5)).end();
+    fresh().lent(1, log(0, 1, 5)).lent(1, log(0, 1, 6)).end();
+    fresh().lent(4000007, rubbish()).lent(2, rubbish()).end();
+}
+
+// The one bench of a volume is handed a proposal, and then its own votes.
+fn lent_decision() {
+    Schedule::open(1, 0)
+        .lent(0, proposal(0, 0, 5))
+        .line()
+        .lent(1, proposal(0, 0, 5))
+        .line()
+        .lent(2, log(0, 0, 5))
+        .line()
+        .lent(3, log(0, 0, 5))
+        .line()
+        .lent(4, log(0, 0, 5))
+        .line()
+        .lent(5, log(0, 0, 5))
+        .line()
+        .lent(6, log(1, 0, 5))
+        .end();
+}
+
 fn main() {
     windows();
     lengths();
@@ -196,4 +226,6 @@ fn main() {
     forged_proposal();
     parting();
     last_beats();
+    lent_rows();
+    lent_decision();
 }

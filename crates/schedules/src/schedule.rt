@@ -9,7 +9,24 @@ use super::print::say_made;
 use super::print::say_number;
 use super::print::say_start;
 use super::print::say_taken;
+use super::row::Row;
+use super::row::in_a_row;
 use bench::Bench;
+
+fn say_row(beat: u32, form: Form, row: Row) {
+    say(b"; lent: begin ");
+    say_number(beat as u64);
+    let started = row.started;
+    say_start(started);
+    say(b"; ");
+    say_form(form);
+    let taken = row.taken;
+    say_taken(taken);
+    say(b"; act");
+    let made = row.made;
+    let bench = row.bench;
+    say_made(made, bench.decided, bench.parted);
+}
 
 // The record and the lent lists as the last call left them.
 pub(crate) struct Schedule {
@@ -128,6 +145,38 @@ impl Schedule {
     // A bench is awake at a beat if it begins it and acts in it.
     pub(crate) fn awake(self, beat: u32) -> Schedule {
         self.begin(beat).act()
+    }
+
+    fn lend(self, beat: u32, form: Form, bytes: &[u8; 666], size: usize) -> Schedule {
+        let before = self.bench;
+        let mut names = self.names;
+        let mut counts = self.counts;
+        let mut out = [0u8; 656];
+        let row = in_a_row(
+            before,
+            &mut names,
+            &mut counts,
+            &mut out,
+            front(bytes, size),
+            beat,
+            0,
+            0,
+            0,
+        );
+        say_row(beat, form, row);
+        let bench = row.bench;
+        Schedule {
+            bench,
+            names,
+            counts,
+        }
+    }
+
+    // Begin, the message and Act on one lent record.
+    pub(crate) fn lent(self, beat: u32, form: Form) -> Schedule {
+        let mut bytes = [0u8; 666];
+        form::write(&mut bytes, form);
+        self.lend(beat, form, &bytes, form::size(form))
     }
 
     // A line ends, and the schedule goes on in another.

@@ -209,8 +209,8 @@ module _ {M : Type 1} (𝓤 : URA M) (H : Heap 𝓤) (A : Atoms 𝓤) (W : Given
         (arg ! 15 refl (arg ! 9 refl (arg ! 6 refl (arg ! 3 refl (arg ! 29 refl (arg ! 27 refl (arg ! 25 refl (no-more !)))))))) (λ v.
         use1 W (later (some (λ (r : Acted). (toks ⊛ ‵ (R.the-row .own r (v ∷ []))) ⊛ raw (Ensured r)))) (id⊢ 𝓤 _) $ await ! tt $ pick ! (λ r. split ! $
         move ! (1 ∷ []) $
-        use1 W (some (λ (zs : Lasts). ‵ (lasts callee.ended (κ₁, (κ₂, (κ₃, tt))) (h, (x₁, (x₂, (x₃, (x₄, (x₅, (x₆, tt))))))) zs) ⊛ raw
-        (fact 𝓤 (Does r (zs .1 .0) (zs .1 .1 .0) (zs .1 .1 .1 .0))))) (id⊢ 𝓤 _) $ pick ! (λ zs.
+        use1 W (some (λ (zs : Lasts). ‵ (lasts callee.ended (κ₁, (κ₂, (κ₃, tt))) (h, (x₁, (x₂, (x₃, (x₄, (x₅, (x₆, tt))))))) zs) ⊛ raw (fact 𝓤
+        (Does r (zs .1 .0) (zs .1 .1 .0) (zs .1 .1 .1 .0))))) (id⊢ 𝓤 _) $ pick ! (λ zs.
         split ! $ move ! (1 ∷ []) $ heard ! (Does r (zs .1 .0) (zs .1 .1 .0) (zs .1 .1 .1 .0)) (λ e. fsplit ! $ drop ! $ fsplit ! $ fsplit ! $ move ! (1 ∷ []) $
         feqL ! (λ e₁. move ! (1 ∷ []) $ fsplit ! $ fsplit ! $ move ! (1 ∷ []) $ feqL ! (λ e₂. move ! (1 ∷ []) $ fsplit ! $ fsplit ! $ move ! (1 ∷ []) $
         feqL ! (λ e₃.
