@@ -1,6 +1,6 @@
 -- The outgoing buffer after an Act, for every record, list, offer and buffer: a made message stands at its front, and the bytes past it keep their
--- values; where nothing is made, refused Acts included, all of them do. A made message always has room: it has 64 blocks at the most. Assumes
--- nothing.
+-- values; where nothing is made, refused Acts included, all of them do. A made message always has room: it has 64 blocks at the most. Begin and
+-- Receive have no buffer. Assumes nothing.
 use Prim.Native.Nat.{ℕ, zero, suc, _+_, _≤_, _<_}
 use native.Mathlib.Omega.{arith}
 use mathlib.Core.Bool.{Bool, false, not, _||_, and-eq-true-iff}
@@ -171,9 +171,8 @@ fits : (out : List ℕ) (o : Option Meaning) → Short o → mostBytes ≤ lengt
 fits out none h r = tt
 fits out (some m) h r = (h, let l = length-message m in omega arith)
 
--- ---- the Act
+-- ---- Begin and Receive have no buffer
 
--- Begin and Receive have no buffer.
 pub begin-out : (s : State) (beat : ℕ) → beginOf s beat .answer .out ≡ []
 unfolding beginOf
 begin-out s beat =
@@ -192,6 +191,8 @@ receive-out s bytes =
     either (beyond (s .bench)) (λ e. rw e) (λ e.
     either (shortLists (s .lent)) (λ f. rw (e, f)) (λ f.
     either (idle (s .bench)) (λ g. rw (e, f, g)) (λ g. rw (e, f, g) (receives-out s bytes (readOf (s .bench .n) bytes)))))
+
+-- ---- the Act
 
 module _ (s : State) (block : Block) (priority : ℕ) (out : List ℕ) where
   -- one equation, refused Acts included

@@ -1,6 +1,8 @@
--- A call on a lent record, step by step: what the walks of `lent::begin_lent`, `lent::receive_lent` and `lent::act_lent` share. The record is copied out of the
--- open borrow (`copied-out`), a lent list is lent on (`lent-on`), the call by value is made (each walk's own step), and the record that it gave is stored, the
--- borrow closed at it and the answer handed back (`stored-back`). Nothing is used of the record's fields. Assumes nothing.
+-- A call on a lent record, step by step: what the walks of `lent::begin_lent`, `lent::receive_lent` and `lent::act_lent` share. The record is copied
+-- out of the open borrow (`copied-out`), a lent list is lent on (`lent-on`), the call by value is made (each walk's own step), and the record that it
+-- gave is stored, the borrow closed at it and the answer handed back (`stored-back`). All that a walk knows of the call by value is that it meets its
+-- contract, and it uses nothing of the record's fields. In a walk with n locals, local i stands at 2 (n - 1 - i) of the context once all are
+-- allocated; a line above each `move` says what it brings to the front, _i being local i. The program logic's laws are taken as `Given`.
 use mathlib.Core.Path.{_≡_, refl, sym, subst}
 use Prim.Native.Nat.{ℕ, zero, _<_, _^_}
 use mathlib.Core.List.{List, [], _∷_}
@@ -61,11 +63,13 @@ module _ {M : Type 1} {𝓤 : URA M} {H : Heap 𝓤} {A : Atoms 𝓤} {K : Type 
   at-local : K → {i : ℕ} {st : List PStep} {sp sp′ : Spot 𝓤 H} → spotOf 𝓤 H E i ≡ sp → Walks K W Γ E sp st sp′ → Finds K W Γ E (place i st) sp′
   at-local t {i} {st} {sp} {sp′} e w = from t (subst (λ (s : Spot 𝓤 H). Walks K W Γ E s st sp′) (sym e) w)
 
-  handed-back : K → {C : Calls 𝓤 H} {Λ : Loops 𝓤 H} {Kf : Val → SProp 𝓤} {sp : Spot 𝓤 H} {v : Val} → spotOf 𝓤 H E zero ≡ sp → Reads K W Γ (sp .0) (sp .1) zero v → Step K W Γ (frees E (prop (Kf v))) Γ (runs C Λ E return (atRet E Kf))
+  handed-back : K → {C : Calls 𝓤 H} {Λ : Loops 𝓤 H} {Kf : Val → SProp 𝓤} {sp : Spot 𝓤 H} {v : Val} → spotOf 𝓤 H E zero ≡ sp → Reads K W Γ (sp .0) (sp .1) zero v
+      → Step K W Γ (frees E (prop (Kf v))) Γ (runs C Λ E return (atRet E Kf))
   handed-back t {v = v} e r = returns t (subst (λ (s : Spot 𝓤 H). Reads K W Γ (s .0) (s .1) zero v) (sym e) r)
 
   -- a local is read for the callee: entry n of the context is its cell
-  pub arg : K → (n : ℕ) {i : ℕ} {v : Val} {xs : List Operand} {vs : List Val} → nth 𝓤 H A n Γ ≡ ‵ (fat fullShare (spotOf 𝓤 H E i .0) (spotOf 𝓤 H E i .1) zero v) → Opds K W Γ E xs vs → Opds K W Γ E (copy (place i []) ∷ xs) (v ∷ vs)
+  pub arg : K → (n : ℕ) {i : ℕ} {v : Val} {xs : List Operand} {vs : List Val} → nth 𝓤 H A n Γ ≡ ‵ (fat fullShare (spotOf 𝓤 H E i .0) (spotOf 𝓤 H E i .1) zero v)
+      → Opds K W Γ E xs vs → Opds K W Γ E (copy (place i []) ∷ xs) (v ∷ vs)
   arg t n e rest = and-then t (load t (from t (stop t)) (look t n e)) rest
 
   -- a local is freed, whatever it holds
@@ -78,25 +82,33 @@ module _ {M : Type 1} {𝓤 : URA M} {H : Heap 𝓤} {A : Atoms 𝓤} {K : Type 
       K → (h : Bench) {q : Post 𝓤 H} {rest : Body} {κ : Lft} {s : Share} {γ : GName} {τ₁ : Ty} {l₁ l b o c : ℕ}
       → spotOf 𝓤 H E 1 ≡ (τ₁, l₁, zero) → spotOf 𝓤 H E c ≡ (benchTy, l, zero)
       → (Is T.the-row h (benchVal h ∷ [])
-      → Seq K W (‵ (cellAt fullShare (T.the-row .mir) (benchVal h ∷ []) b o) ∷ ‵ (fobor κ s (Borrowed (mem T.the-row) b o γ)) ∷ ‵ (fobs γ (T.the-row .coded .code h)) ∷ ‵ (fauth γ (T.the-row .coded .code h))
+      → Seq K W (‵ (cellAt fullShare (T.the-row .mir) (benchVal h ∷ []) b o) ∷ ‵ (fobor κ s (Borrowed (mem T.the-row) b o γ)) ∷ ‵ (fobs γ (T.the-row .coded .code h))
+      ∷ ‵ (fauth γ (T.the-row .coded .code h))
       ∷ ‵ (fat fullShare τ₁ l₁ zero (vptr b o)) ∷ ‵ (fat fullShare benchTy l zero (benchVal h)) ∷ Γ) (runs C Λ E rest q))
-      → Seq K W (‵ (fobs γ (T.the-row .coded .code h)) ∷ ‵ (fbor κ (Borrowed (mem T.the-row) b o γ)) ∷ ‵ (flft κ s) ∷ ‵ (fat fullShare τ₁ l₁ zero (vptr b o)) ∷ ‵ (froom benchTy l zero) ∷ Γ)
+      → Seq K W (‵ (fobs γ (T.the-row .coded .code h)) ∷ ‵ (fbor κ (Borrowed (mem T.the-row) b o γ)) ∷ ‵ (flft κ s) ∷ ‵ (fat fullShare τ₁ l₁ zero (vptr b o))
+      ∷ ‵ (froom benchTy l zero) ∷ Γ)
       (runs C Λ E (seq (assign (place c []) (rvOpd (copy (place 1 (deref benchTy ∷ []))))) rest) q)
   copied-out t h {b = b} {o = o} e₁ e k =
-      opens t tt (T.the-row) {h = h} b o (λ vs. spelt-out t (T.the-row) (Is (T.the-row)) (shows 𝓤 H A (T.the-row)) (LL.vals T.the-type T′.the-laws) (LL.tells T.the-type T′.the-laws) fullShare h vs b o $
+      opens t tt (T.the-row) {h = h} b o (λ vs.
+      spelt-out t (T.the-row) (Is (T.the-row)) (shows 𝓤 H A (T.the-row)) (LL.vals T.the-type T′.the-laws) (LL.tells T.the-type T′.the-laws) fullShare h vs b o $
       move t (1 ∷ []) $ peeks t T.the-row (Is T.the-row) (shows 𝓤 H A T.the-row) h _ (λ is. drop t $
-      assigns t (of-opd t (load t (at-local t e₁ (hop t (look t 4 refl) (stop t))) (look-raw t 0 refl))) (at-local t e (stop t)) (init t 5 refl (LL.lawful T.the-type T′.the-laws 𝓤 H A W .typed h _ is .0)) $ k is))
+      assigns t (of-opd t (load t (at-local t e₁ (hop t (look t 4 refl) (stop t))) (look-raw t 0 refl))) (at-local t e (stop t))
+      (init t 5 refl (LL.lawful T.the-type T′.the-laws 𝓤 H A W .typed h _ is .0)) $ k is))
 
   -- a slice in local i is lent on whole: its address in local j, and the slice anew in local k
   pub lent-on :
       K → {q : Post 𝓤 H} {rest : Body} {ν : Sym} {ℓ : Lifetime} {μ μ′ : Mutability} {τ : Ty} {l l′ l″ i j k n : ℕ} {x : ℕ × ℕ}
       → n < 2 ^ 64 → spotOf 𝓤 H E i ≡ (listTy ν ℓ μ τ, l, zero) → spotOf 𝓤 H E j ≡ (tyRef erased μ′ τ, l′, zero) → spotOf 𝓤 H E k ≡ (listTy ν erased μ′ τ, l″, zero)
-      → Step K W (‵ (fat fullShare (listTy ν ℓ μ τ) l zero (sliceVal x n)) ∷ ‵ (fat fullShare (tyRef erased μ′ τ) l′ zero (vptr (x .0) (x .1))) ∷ ‵ (fat fullShare (listTy ν erased μ′ τ) l″ zero (sliceVal x n)) ∷ Γ) (runs C Λ E rest q)
+      → Step K W (‵ (fat fullShare (listTy ν ℓ μ τ) l zero (sliceVal x n)) ∷ ‵ (fat fullShare (tyRef erased μ′ τ) l′ zero (vptr (x .0) (x .1)))
+      ∷ ‵ (fat fullShare (listTy ν erased μ′ τ) l″ zero (sliceVal x n)) ∷ Γ) (runs C Λ E rest q)
       (‵ (fat fullShare (listTy ν ℓ μ τ) l zero (sliceVal x n)) ∷ ‵ (froom (tyRef erased μ′ τ) l′ zero) ∷ ‵ (froom (listTy ν erased μ′ τ) l″ zero) ∷ Γ)
-      (runs C Λ E (seq (assign (place j []) (addrOf (place i (field 0 ∷ deref τ ∷ [])))) (seq (assign (place k []) (aggregate (copy (place j []) ∷ copy (place i (field 1 ∷ [])) ∷ []))) rest)) q)
+      (runs C Λ E (seq (assign (place j []) (addrOf (place i (field 0 ∷ deref τ ∷ []))))
+      (seq (assign (place k []) (aggregate (copy (place j []) ∷ copy (place i (field 1 ∷ [])) ∷ []))) rest)) q)
   lent-on t fits eᵢ eⱼ eₖ = step (λ s.
       assigns t (addr t (at-local t eᵢ (fld t refl (hop t (look-in t 0 (sub t 0 refl (whole t))) (stop t))))) (at-local t eⱼ (stop t)) (init t 1 refl (tt, tt)) $
-      assigns t (agg t (and-then t (load t (at-local t eⱼ (stop t)) (look t 1 refl)) (and-then t (load t (at-local t eᵢ (fld t refl (stop t))) (look-in t 0 (sub t 1 refl (whole t)))) (no-more t))))
+      assigns t
+      (agg t (and-then t (load t (at-local t eⱼ (stop t)) (look t 1 refl))
+      (and-then t (load t (at-local t eᵢ (fld t refl (stop t))) (look-in t 0 (sub t 1 refl (whole t)))) (no-more t))))
       (at-local t eₖ (stop t)) (init t 2 refl (tt, (tt, (record { fits = fits }, tt)))) $ s)
 
   -- the call's result lands in local m; its record is stored and the borrow closed at it, and the answer is handed back
@@ -114,5 +126,6 @@ module _ {M : Type 1} {𝓤 : URA M} {H : Heap 𝓤} {A : Atoms 𝓤} {K : Type 
       (store-raw t 0 refl (LL.lawful T.the-type T′.the-laws 𝓤 H A W .typed h _ (gave .bench) .0)) $
       assigns t (of-opd t (load t (at-local t e (fld t f₀ (stop t))) (look-in t 5 (sub t 0 f₀ (whole t))))) (at-local t e₀ (stop t)) (init t 6 refl (gave .answer)) $
       rewrite t 5 (λ (u : Val). ‵ (fat fullShare (tyStruct ν τs) l zero u)) (sym (gave .spelt)) refl $
-      owned t T.the-row (Is T.the-row) ((LL.makes T.the-type T′.the-plain) 𝓤 H A) h _ (gave .bench) $ move t (1 ∷ 0 ∷ []) $ closes t tt (T.the-row) h (benchVal h ∷ []) b o $
+      owned t T.the-row (Is T.the-row) ((LL.makes T.the-type T′.the-plain) 𝓤 H A) h _ (gave .bench) $ move t (1 ∷ 0 ∷ []) $
+      closes t tt (T.the-row) h (benchVal h ∷ []) b o $
       handed-back t e₀ (look t 5 refl) $ s)

@@ -1,6 +1,6 @@
-// Begin, Receive and Act on a record that is lent: each takes the record out, makes the call by value and stores the record that
-// it gave. So each is that call, refused ones too: the promises are those of the calls by value, with the record behind the
-// reference in place of the one given back.
+// Begin, Receive and Act on a record that is lent and found moved on: each takes the record out, makes the call by value and stores
+// the record that it gave. So each is that call, and promises what it does, with the record behind the reference in place of the
+// one taken and the one given back. A refusal stores the record as it was.
 ghost use Rattle.bench.specs.ByRecord.{beginOf, receiveOf, actOf};
 ghost use Rattle.bench.specs.Answers.{stateOf, BeginGives, ReceiveGives, ActGives};
 use crate::Bench;

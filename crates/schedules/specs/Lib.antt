@@ -1,2 +1,2 @@
 -- What the calls on a lent record give in a row.
-pub mod Row
+pub mod Gathering

@@ -1,9 +1,9 @@
 // Document 01's schedules without a star through the compiled calls, a line for each, and a few more of their kind: what each call
 // was handed, and what came back. An act's answer is what was made, its blocks, and the decided blocks, with the mark.
 mod form;
+mod gathering;
 mod opening;
 mod print;
-mod row;
 mod schedule;
 
 use form::empty_log;
@@ -185,20 +185,20 @@ fn last_beats() {
 
 // ---- on a lent record
 
-// Begin, a message and Act on one record, in a row: as by value, refused calls too.
-fn lent_rows() {
+// Begin, a message and Act on one record, in a row: first what the line before has by value, then with refused calls.
+fn lent_gatherings() {
     fresh().begin(1).take(log(0, 1, 5)).act().end();
     fresh().lent(1, log(0, 1, 5)).end();
     fresh().lent(1, log(0, 1, 5)).lent(1, log(0, 1, 6)).end();
     fresh().lent(4000007, rubbish()).lent(2, rubbish()).end();
 }
 
-// The one bench of a volume is handed a proposal, and then its own votes.
+// The one bench of a volume proposes and decides; it is handed its own votes.
 fn lent_decision() {
     Schedule::open(1, 0)
-        .lent(0, proposal(0, 0, 5))
+        .lent_offering(0, rubbish(), 5, 9)
         .line()
-        .lent(1, proposal(0, 0, 5))
+        .lent(1, rubbish())
         .line()
         .lent(2, log(0, 0, 5))
         .line()
@@ -226,6 +226,6 @@ fn main() {
     forged_proposal();
     parting();
     last_beats();
-    lent_rows();
+    lent_gatherings();
     lent_decision();
 }

@@ -37,6 +37,14 @@ pub(crate) fn say_taken(answer: Taken) {
     }
 }
 
+// The block and the priority that an act is handed.
+pub(crate) fn say_offer(name: u64, priority: u64) {
+    say(b" offering ");
+    say_number(name);
+    say(b", priority ");
+    say_number(priority);
+}
+
 fn say_mark(parted: bool) {
     if parted {
         say(b" parted");

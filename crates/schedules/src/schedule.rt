@@ -3,28 +3,32 @@ use super::form;
 use super::form::Form;
 use super::form::front;
 use super::form::say_form;
+use super::gathering::Gathered;
+use super::gathering::gather;
 use super::print::say;
 use super::print::say_bench;
 use super::print::say_made;
 use super::print::say_number;
+use super::print::say_offer;
 use super::print::say_start;
 use super::print::say_taken;
-use super::row::Row;
-use super::row::in_a_row;
 use bench::Bench;
 
-fn say_row(beat: u32, form: Form, row: Row) {
+fn say_gathered(beat: u32, form: Form, name: u64, priority: u64, gathered: Gathered) {
     say(b"; lent: begin ");
     say_number(beat as u64);
-    let started = row.started;
+    let started = gathered.started;
     say_start(started);
     say(b"; ");
     say_form(form);
-    let taken = row.taken;
+    let taken = gathered.taken;
     say_taken(taken);
     say(b"; act");
-    let made = row.made;
-    let bench = row.bench;
+    if name != 0 {
+        say_offer(name, priority);
+    }
+    let made = gathered.made;
+    let bench = gathered.bench;
     say_made(made, bench.decided, bench.parted);
 }
 
@@ -127,10 +131,8 @@ impl Schedule {
     }
 
     pub(crate) fn act_offering(self, name: u64, priority: u64) -> Schedule {
-        say(b"; act offering ");
-        say_number(name);
-        say(b", priority ");
-        say_number(priority);
+        say(b"; act");
+        say_offer(name, priority);
         let mut out = [0u8; 656];
         self.act_into(&mut out, name, priority)
     }
@@ -147,24 +149,33 @@ impl Schedule {
         self.begin(beat).act()
     }
 
-    fn lend(self, beat: u32, form: Form, bytes: &[u8; 666], size: usize) -> Schedule {
+    // The message is the first `size` bytes.
+    fn gather(
+        self,
+        beat: u32,
+        form: Form,
+        bytes: &[u8; 666],
+        size: usize,
+        name: u64,
+        priority: u64,
+    ) -> Schedule {
         let before = self.bench;
         let mut names = self.names;
         let mut counts = self.counts;
         let mut out = [0u8; 656];
-        let row = in_a_row(
+        let gathered = gather(
             before,
             &mut names,
             &mut counts,
             &mut out,
             front(bytes, size),
             beat,
-            0,
-            0,
-            0,
+            name,
+            1,
+            priority,
         );
-        say_row(beat, form, row);
-        let bench = row.bench;
+        say_gathered(beat, form, name, priority, gathered);
+        let bench = gathered.bench;
         Schedule {
             bench,
             names,
@@ -173,10 +184,14 @@ impl Schedule {
     }
 
     // Begin, the message and Act on one lent record.
-    pub(crate) fn lent(self, beat: u32, form: Form) -> Schedule {
+    pub(crate) fn lent_offering(self, beat: u32, form: Form, name: u64, priority: u64) -> Schedule {
         let mut bytes = [0u8; 666];
         form::write(&mut bytes, form);
-        self.lend(beat, form, &bytes, form::size(form))
+        self.gather(beat, form, &bytes, form::size(form), name, priority)
+    }
+
+    pub(crate) fn lent(self, beat: u32, form: Form) -> Schedule {
+        self.lent_offering(beat, form, 0, 0)
     }
 
     // A line ends, and the schedule goes on in another.

@@ -1,7 +1,4 @@
--- `bench::lent::begin_lent` meets its contract: a walk of its MIR, by the steps of LentSteps. The record's borrow is opened and the record copied
--- out; `begin` is called with the copy and all else that was handed in; the record that it gave is stored and the borrow closed at it. All that is
--- known of `begin` is that it meets its contract. With n locals, local i stands at 2 (n - 1 - i) once all are allocated; a line above each `move` says
--- what it brings to the front, _i being local i. Assumes nothing.
+-- `lent::begin_lent` meets its contract: a walk of its MIR, by the steps of LentSteps around the call of `begin`. Assumes nothing.
 use mathlib.Core.Path.{refl}
 use Prim.Native.Nat.{ℕ, _<_, _^_}
 use mathlib.Core.List.{[], _∷_, List}

@@ -1,7 +1,7 @@
-// Begin, a message received and Act on one lent record: a caller with no reference to a record in its signature. Who calls it
-// lends nothing but lists and buffer.
+// A gathering with one message, on one lent record: Begin, Receive and Act in a row. The record is taken by value and lent here, so
+// that no caller needs a proof about references.
 ghost use Rattle.bench.specs.Answers.{stateOf};
-ghost use Rattle.schedules.specs.Row.{rowOf, RowGives};
+ghost use Rattle.schedules.specs.Gathering.{gatheringOf, GatheringGives};
 use bench::Bench;
 use bench::Made;
 use bench::Start;
@@ -11,14 +11,14 @@ use bench::lent::begin_lent;
 use bench::lent::receive_lent;
 
 // The three answers, and the record afterwards.
-pub struct Row {
+pub struct Gathered {
     pub started: Start,
     pub taken: Taken,
     pub made: Made,
     pub bench: Bench,
 }
 
-pub fn in_a_row(
+pub fn gather(
     bench: Bench,
     names: &mut [u64],
     counts: &mut [u16],
@@ -28,14 +28,14 @@ pub fn in_a_row(
     name: u64,
     count: u16,
     priority: u64,
-) -> Row
-    ensures { λ r. ⌜ RowGives (stateOf bench (now (names .entry)) (now (counts .entry))) (rowOf beat (now (message .entry)) (record { name = name; count = count }) priority (now (out .entry))) r (now (names .exit)) (now (counts .exit)) (now (out .exit)) ⌝ }
+) -> Gathered
+    ensures { λ r. ⌜ GatheringGives (stateOf bench (now (names .entry)) (now (counts .entry))) (gatheringOf beat (now (message .entry)) (record { name = name; count = count }) priority (now (out .entry))) r (now (names .exit)) (now (counts .exit)) (now (out .exit)) ⌝ }
 {
     let mut lent = bench;
     let started = begin_lent(&mut lent, names, counts, beat);
     let taken = receive_lent(&mut lent, names, counts, message);
     let made = act_lent(&mut lent, names, counts, out, name, count, priority);
-    Row {
+    Gathered {
         started,
         taken,
         made,

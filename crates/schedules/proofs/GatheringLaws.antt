@@ -12,7 +12,7 @@ use Rattle.bench.specs.declared.Start.{Start}
 use Rattle.bench.specs.declared.Taken.{Taken}
 use Rattle.bench.specs.declared.Made.{Made}
 use Rattle.run.specs.Demand.{runs, answers}
-use Rattle.schedules.specs.Row.{rowOf, RowGives}
+use Rattle.schedules.specs.Gathering.{gatheringOf, GatheringGives}
 
 module _ (x : State) (beat : ℕ) (message : List ℕ) (block : Block) (priority : ℕ) (out : List ℕ) (h₁ h₂ h₃ : Bench) (ns₁ cs₁ ns₂ cs₂ ns₃ cs₃ left : List ℕ) (r₁ : Start) (r₂ : Taken) (r₃ : Made) where
   abbrev begun : Step
@@ -24,13 +24,13 @@ module _ (x : State) (beat : ℕ) (message : List ℕ) (block : Block) (priority
   abbrev acted : State → Step
   acted s = actOf s block priority out
 
-  pub in-a-row :
+  pub gathered :
       BeginGives begun (record { answer = r₁; bench = h₁ }) ns₁ cs₁
       → ReceiveGives (received (stateOf h₁ ns₁ cs₁)) (record { answer = r₂; bench = h₂ }) ns₂ cs₂
       → ActGives (acted (stateOf h₂ ns₂ cs₂)) (record { answer = r₃; bench = h₃ }) ns₃ cs₃ left
-      → RowGives x (rowOf beat message block priority out) (record { started = r₁; taken = r₂; made = r₃; bench = h₃ }) ns₃ cs₃ left
+      → GatheringGives x (gatheringOf beat message block priority out) (record { started = r₁; taken = r₂; made = r₃; bench = h₃ }) ns₃ cs₃ left
   unfolding runs answers
-  in-a-row b r a =
+  gathered b r a =
       let one : stateOf h₁ ns₁ cs₁ ≡ begun .held = λ i. stateOf (b .bench i) (b .nameList i) (b .countList i) in
       let two : stateOf h₂ ns₂ cs₂ ≡ received (begun .held) .held =
       (λ i. stateOf (r .bench i) (r .nameList i) (r .countList i)) ∙ ap (λ (s : State). received s .held) one in
