@@ -35,8 +35,6 @@ pub mod DecidingLaws
 pub mod WrittenLaws
 pub mod MakingLaws
 pub mod ActCases
--- Calls on a lent record:
-pub mod LentSteps
 -- Worked examples:
 pub mod Odd
 pub mod Order

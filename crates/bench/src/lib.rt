@@ -1,12 +1,10 @@
 // One bench: its record and its four calls. Names and counts of blocks stand in two lent lists beside it. What each call gives is
-// defined in specs/ByRecord.antt, for every record, list, message and buffer; a refused call changes nothing. lent.rt has three of
-// the calls on a lent record.
+// defined in specs/ByRecord.antt, for every record, list, message and buffer; a refused call changes nothing.
 mod acts;
 mod beginning;
 mod calendar;
 mod deciding;
 mod filing;
-pub mod lent;
 mod limits;
 mod making;
 mod record;

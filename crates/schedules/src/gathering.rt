@@ -6,9 +6,6 @@ use bench::Bench;
 use bench::Made;
 use bench::Start;
 use bench::Taken;
-use bench::lent::act_lent;
-use bench::lent::begin_lent;
-use bench::lent::receive_lent;
 
 // The three answers, and the record afterwards.
 pub struct Gathered {
@@ -31,14 +28,14 @@ pub fn gather(
 ) -> Gathered
     ensures { λ r. ⌜ GatheringGives (stateOf bench (now (names .entry)) (now (counts .entry))) (gatheringOf beat (now (message .entry)) (record { name = name; count = count }) priority (now (out .entry))) r (now (names .exit)) (now (counts .exit)) (now (out .exit)) ⌝ }
 {
-    let mut lent = bench;
-    let started = begin_lent(&mut lent, names, counts, beat);
-    let taken = receive_lent(&mut lent, names, counts, message);
-    let made = act_lent(&mut lent, names, counts, out, name, count, priority);
+    let mut record = bench;
+    let started = lent::begin(&mut record, names, counts, beat);
+    let taken = lent::receive(&mut record, names, counts, message);
+    let made = lent::act(&mut record, names, counts, out, name, count, priority);
     Gathered {
         started,
         taken,
         made,
-        bench: lent,
+        bench: record,
     }
 }

@@ -1,6 +1,6 @@
 -- `gathering::gather` meets its contract: a walk of its MIR, by hand. The record stands in a local, _10, which is lent to each call and comes back at what
 -- the call left. Both lists are lent to Begin as `&` and to Receive as `&mut`, and come back; Act has them, and the buffer, for good, and Receive has
--- the message. All that is known of the three callees is that each meets its contract. Positions are as in bench's LentSteps. Assumes nothing.
+-- the message. All that is known of the three callees is that each meets its contract. Positions are as in lent's LentSteps. Assumes nothing.
 use mathlib.Core.Path.{_≡_, refl, _∙_}
 use Prim.Native.Nat.{ℕ, _<_, _^_}
 use mathlib.Core.List.{[], _∷_, List}
@@ -46,7 +46,7 @@ use Rattle.bench.specs.declared.Start.{Start}
 use Rattle.bench.specs.declared.Taken.{Taken}
 use Rattle.bench.specs.declared.Made.{Made}
 use Rattle.schedules.specs.declared.gathering.Gathered.{Gathered}
-use Rattle.bench.proofs.LentSteps.{benchVal, arg, lent-on, freed}
+use Rattle.lent.proofs.LentSteps.{benchVal, arg, lent-on, freed}
 use Rattle.schedules.proofs.Lending.{Loan, life, placed, KeptLocal, lends-local, local-back, KeptMut, KeptShr, lends-mut, mut-back, lends-shr, shr-back}
 use Rattle.schedules.proofs.GatheringLaws.{gathered}
 use Rattle.bench.proofs.Bench as T
@@ -59,18 +59,18 @@ use Rattle.bench.proofs.Made as TM
 use Rattle.bench.proofs.Made.Laws as TM′
 use Rattle.schedules.proofs.gathering.Gathered as TR
 use Rattle.schedules.proofs.gathering.Gathered.Laws as TR′
-use Rattle.bench.proofs.lent.begin_lent as beg
-use Rattle.bench.proofs.lent.begin_lent.Symbol as beg-def
-use Rattle.bench.proofs.lent.begin_lent.Symbol.{name as #begin}
-use Rattle.bench.proofs.lent.begin_lent.Met as beg-thm
-use Rattle.bench.proofs.lent.receive_lent as rec
-use Rattle.bench.proofs.lent.receive_lent.Symbol as rec-def
-use Rattle.bench.proofs.lent.receive_lent.Symbol.{name as #receive}
-use Rattle.bench.proofs.lent.receive_lent.Met as rec-thm
-use Rattle.bench.proofs.lent.act_lent as act
-use Rattle.bench.proofs.lent.act_lent.Symbol as act-def
-use Rattle.bench.proofs.lent.act_lent.Symbol.{name as #act}
-use Rattle.bench.proofs.lent.act_lent.Met as act-thm
+use Rattle.lent.proofs.begin as beg
+use Rattle.lent.proofs.begin.Symbol as beg-def
+use Rattle.lent.proofs.begin.Symbol.{name as #begin}
+use Rattle.lent.proofs.begin.Met as beg-thm
+use Rattle.lent.proofs.receive as rec
+use Rattle.lent.proofs.receive.Symbol as rec-def
+use Rattle.lent.proofs.receive.Symbol.{name as #receive}
+use Rattle.lent.proofs.receive.Met as rec-thm
+use Rattle.lent.proofs.act as act
+use Rattle.lent.proofs.act.Symbol as act-def
+use Rattle.lent.proofs.act.Symbol.{name as #act}
+use Rattle.lent.proofs.act.Met as act-thm
 use Rattle.schedules.proofs.gathering.gather.Key.{name as #gather}
 use Rattle.schedules.proofs.gathering.gather as here
 use Rattle.schedules.proofs.gathering.gather.Statement as stated
@@ -585,6 +585,6 @@ gather-spec 𝓤 H 𝓜 𝓖 𝓡 =
     entered 𝓤 H (tripleOf 𝓤 H (𝓖 .A) here.signature (here.spec 𝓤 H (𝓖 .A) (𝓜 .mem) (𝓡 .run)))
     (tables 𝓤 H 𝓜 𝓡 code.env .C) (tables 𝓤 H 𝓜 𝓡 code.env .Λ) #gather code.function (code.unfolded 𝓤 H 𝓜 𝓡)
     (gather-meets 𝓤 H (𝓖 .A) (givenOf 𝓤 H 𝓜 𝓖) (𝓜 .mem) (𝓡 .run) (tablesOf 𝓤 H 𝓜 (tables 𝓤 H 𝓜 𝓡 code.env))
-    (cited 𝓤 H (Beg 𝓤 H (𝓖 .A) (𝓜 .mem) (𝓡 .run)) 𝓜 𝓡 code.env #begin beg-def.routine code.calls-bench·lent·begin-lent (beg-thm.met 𝓤 H 𝓜 𝓖 𝓡))
-    (cited 𝓤 H (Rec 𝓤 H (𝓖 .A) (𝓜 .mem) (𝓡 .run)) 𝓜 𝓡 code.env #receive rec-def.routine code.calls-bench·lent·receive-lent (rec-thm.met 𝓤 H 𝓜 𝓖 𝓡))
-    (cited 𝓤 H (Act 𝓤 H (𝓖 .A) (𝓜 .mem) (𝓡 .run)) 𝓜 𝓡 code.env #act act-def.routine code.calls-bench·lent·act-lent (act-thm.met 𝓤 H 𝓜 𝓖 𝓡)))
+    (cited 𝓤 H (Beg 𝓤 H (𝓖 .A) (𝓜 .mem) (𝓡 .run)) 𝓜 𝓡 code.env #begin beg-def.routine code.calls-lent·begin (beg-thm.met 𝓤 H 𝓜 𝓖 𝓡))
+    (cited 𝓤 H (Rec 𝓤 H (𝓖 .A) (𝓜 .mem) (𝓡 .run)) 𝓜 𝓡 code.env #receive rec-def.routine code.calls-lent·receive (rec-thm.met 𝓤 H 𝓜 𝓖 𝓡))
+    (cited 𝓤 H (Act 𝓤 H (𝓖 .A) (𝓜 .mem) (𝓡 .run)) 𝓜 𝓡 code.env #act act-def.routine code.calls-lent·act (act-thm.met 𝓤 H 𝓜 𝓖 𝓡)))

@@ -1,4 +1,4 @@
--- `lent::act_lent` meets its contract: a walk of its MIR, by the steps of LentSteps around the call of `act`. Assumes nothing.
+-- `lent::act` meets its contract: a walk of its MIR, by the steps of LentSteps around the call of `bench::act`. Assumes nothing.
 use mathlib.Core.Path.{_≡_, refl}
 use Prim.Native.Nat.{ℕ, _<_, _^_}
 use mathlib.Core.List.{[], _∷_, List}
@@ -37,25 +37,25 @@ use denote.Triple.Entry.{onEntry}
 use denote.Triple.Spec.{Meets, tripleOf}
 use denote.Triple.Table.{entered, cited}
 use denote.Triple.Walked.{says, Stays, stay-ref, gave-slice, stay-dropped, walkOf, AllGo, goes-ref, goes-gave-slice, goes-dropped, Walks, ends-at, walked, walk-meets}
 use Rattle.bench.specs.ByRecord.{actOf}
 use Rattle.bench.specs.Answers.{stateOf, ActGives}
 use Rattle.bench.specs.declared.Bench.{Bench}
 use Rattle.bench.specs.declared.Acted.{Acted}
-use Rattle.bench.proofs.LentSteps.{one-value, Gave, copied-out, lent-on, arg, stored-back, freed}
+use Rattle.lent.proofs.LentSteps.{one-value, Gave, copied-out, lent-on, arg, stored-back, freed}
 use Rattle.bench.proofs.Bench as T
 use Rattle.bench.proofs.Bench.Laws as T′
 use Rattle.bench.proofs.Acted as R
 use Rattle.bench.proofs.Acted.Laws as R′
 use Rattle.bench.proofs.Made as S
 use Rattle.bench.proofs.Made.Laws as S′
 use Rattle.bench.proofs.act as callee
 use Rattle.bench.proofs.act.Symbol as callee-def
 use Rattle.bench.proofs.act.Symbol.{name as #callee}
 use Rattle.bench.proofs.act.Met as callee-thm
-use Rattle.bench.proofs.lent.act_lent.Key.{name as #here}
-use Rattle.bench.proofs.lent.act_lent as here
-use Rattle.bench.proofs.lent.act_lent.Statement as stated
-use Rattle.bench.proofs.lent.act_lent.Code as code
+use Rattle.lent.proofs.act.Key.{name as #here}
+use Rattle.lent.proofs.act as here
+use Rattle.lent.proofs.act.Statement as stated
+use Rattle.lent.proofs.act.Code as code
 
 -- the answer, as the machine has it
 abbrev answerVal : Acted → Val
@@ -241,9 +241,9 @@ module _ {M : Type 1} (𝓤 : URA M) (H : Heap 𝓤) (A : Atoms 𝓤) (W : Given
   meets 𝓣 known = walk-meets 𝓤 H A here.ended stayed W goes (here.clauses 𝓤 H A at-mem run) (WpFn 𝓤 H (𝓣 .C) (𝓣 .Λ) code.function)
       (WpFn-mono 𝓤 H (W .laws) 𝓣 code.function) (walks (𝓣 .C) (𝓣 .Λ) (fmOf 𝓤 H (W .laws) 𝓣) known)
 
-pub act-lent-spec : {M : Type 1} → stated.statement M
+pub act-spec : {M : Type 1} → stated.statement M
 unfolding code.routine tablesOf
-act-lent-spec 𝓤 H 𝓜 𝓖 𝓡 =
+act-spec 𝓤 H 𝓜 𝓖 𝓡 =
     entered 𝓤 H (tripleOf 𝓤 H (𝓖 .A) here.signature (here.spec 𝓤 H (𝓖 .A) (𝓜 .mem) (𝓡 .run))) (tables 𝓤 H 𝓜 𝓡 code.env .C)
     (tables 𝓤 H 𝓜 𝓡 code.env .Λ) #here code.function (code.unfolded 𝓤 H 𝓜 𝓡)
     (meets 𝓤 H (𝓖 .A) (givenOf 𝓤 H 𝓜 𝓖) (𝓜 .mem) (𝓡 .run) (tablesOf 𝓤 H 𝓜 (tables 𝓤 H 𝓜 𝓡 code.env))

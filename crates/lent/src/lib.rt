@@ -1,38 +1,30 @@
 // Begin, Receive and Act on a record that is lent and found moved on: each takes the record out, makes the call by value and stores
 // the record that it gave. So each is that call, and promises what it does, with the record behind the reference in place of the
 // one taken and the one given back. A refusal stores the record as it was.
 ghost use Rattle.bench.specs.ByRecord.{beginOf, receiveOf, actOf};
 ghost use Rattle.bench.specs.Answers.{stateOf, BeginGives, ReceiveGives, ActGives};
-use crate::Bench;
-use crate::Made;
-use crate::Start;
-use crate::Taken;
-use crate::act;
-use crate::begin;
-use crate::receive;
+use bench::Bench;
+use bench::Made;
+use bench::Start;
+use bench::Taken;
 
-pub fn begin_lent(bench: &mut Bench, names: &[u64], counts: &[u16], beat: u32) -> Start
+pub fn begin(bench: &mut Bench, names: &[u64], counts: &[u16], beat: u32) -> Start
     ensures { λ r. ⌜ BeginGives (beginOf (stateOf (now (bench .entry)) (now (names .entry)) (now (counts .entry))) beat) (record { answer = r; bench = now (bench .exit) }) (now (names .exit)) (now (counts .exit)) ⌝ }
 {
-    let given = begin(*bench, names, counts, beat);
+    let given = bench::begin(*bench, names, counts, beat);
     *bench = given.bench;
     given.answer
 }
 
-pub fn receive_lent(
-    bench: &mut Bench,
-    names: &mut [u64],
-    counts: &mut [u16],
-    message: &[u8],
-) -> Taken
+pub fn receive(bench: &mut Bench, names: &mut [u64], counts: &mut [u16], message: &[u8]) -> Taken
     ensures { λ r. ⌜ ReceiveGives (receiveOf (stateOf (now (bench .entry)) (now (names .entry)) (now (counts .entry))) (now (message .entry))) (record { answer = r; bench = now (bench .exit) }) (now (names .exit)) (now (counts .exit)) ⌝ }
 {
-    let given = receive(*bench, names, counts, message);
+    let given = bench::receive(*bench, names, counts, message);
     *bench = given.bench;
     given.answer
 }
 
-pub fn act_lent(
+pub fn act(
     bench: &mut Bench,
     names: &mut [u64],
     counts: &mut [u16],
@@ -43,7 +35,7 @@ pub fn act_lent(
 ) -> Made
     ensures { λ r. ⌜ ActGives (actOf (stateOf (now (bench .entry)) (now (names .entry)) (now (counts .entry))) (record { name = name; count = count }) priority (now (out .entry))) (record { answer = r; bench = now (bench .exit) }) (now (names .exit)) (now (counts .exit)) (now (out .exit)) ⌝ }
 {
-    let given = act(*bench, names, counts, out, name, count, priority);
+    let given = bench::act(*bench, names, counts, out, name, count, priority);
     *bench = given.bench;
     given.answer
 }

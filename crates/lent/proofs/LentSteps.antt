@@ -1,4 +1,4 @@
--- A call on a lent record, step by step: what the walks of `lent::begin_lent`, `lent::receive_lent` and `lent::act_lent` share. The record is copied
+-- A call on a lent record, step by step: what the walks of `lent::begin`, `lent::receive` and `lent::act` share. The record is copied
 -- out of the open borrow (`copied-out`), a lent list is lent on (`lent-on`), the call by value is made (each walk's own step), and the record that it
 -- gave is stored, the borrow closed at it and the answer handed back (`stored-back`). All that a walk knows of the call by value is that it meets its
 -- contract, and it uses nothing of the record's fields. In a walk with n locals, local i stands at 2 (n - 1 - i) of the context once all are

@@ -1,4 +1,4 @@
--- `lent::begin_lent` meets its contract: a walk of its MIR, by the steps of LentSteps around the call of `begin`. Assumes nothing.
+-- `lent::begin` meets its contract: a walk of its MIR, by the steps of LentSteps around the call of `bench::begin`. Assumes nothing.
 use mathlib.Core.Path.{refl}
 use Prim.Native.Nat.{ℕ, _<_, _^_}
 use mathlib.Core.List.{[], _∷_, List}
@@ -37,25 +37,25 @@ use denote.Triple.Entry.{onEntry}
 use denote.Triple.Spec.{Meets, tripleOf}
 use denote.Triple.Table.{entered, cited}
 use denote.Triple.Walked.{says, Stays, stay-ref, stay-dropped, walkOf, AllGo, goes-ref, goes-dropped, Walks, ends-at, walked, walk-meets}
 use Rattle.bench.specs.ByRecord.{beginOf}
 use Rattle.bench.specs.Answers.{stateOf, BeginGives}
 use Rattle.bench.specs.declared.Bench.{Bench}
 use Rattle.bench.specs.declared.Started.{Started}
-use Rattle.bench.proofs.LentSteps.{one-value, Gave, copied-out, arg, stored-back, freed}
+use Rattle.lent.proofs.LentSteps.{one-value, Gave, copied-out, arg, stored-back, freed}
 use Rattle.bench.proofs.Bench as T
 use Rattle.bench.proofs.Bench.Laws as T′
 use Rattle.bench.proofs.Started as R
 use Rattle.bench.proofs.Started.Laws as R′
 use Rattle.bench.proofs.Start as S
 use Rattle.bench.proofs.Start.Laws as S′
 use Rattle.bench.proofs.begin as callee
 use Rattle.bench.proofs.begin.Symbol as callee-def
 use Rattle.bench.proofs.begin.Symbol.{name as #callee}
 use Rattle.bench.proofs.begin.Met as callee-thm
-use Rattle.bench.proofs.lent.begin_lent.Key.{name as #here}
-use Rattle.bench.proofs.lent.begin_lent as here
-use Rattle.bench.proofs.lent.begin_lent.Statement as stated
-use Rattle.bench.proofs.lent.begin_lent.Code as code
+use Rattle.lent.proofs.begin.Key.{name as #here}
+use Rattle.lent.proofs.begin as here
+use Rattle.lent.proofs.begin.Statement as stated
+use Rattle.lent.proofs.begin.Code as code
 
 -- the answer, as the machine has it
 abbrev answerVal : Started → Val
@@ -196,9 +196,9 @@ module _ {M : Type 1} (𝓤 : URA M) (H : Heap 𝓤) (A : Atoms 𝓤) (W : Given
   meets 𝓣 known = walk-meets 𝓤 H A here.ended stayed W goes (here.clauses 𝓤 H A at-mem run) (WpFn 𝓤 H (𝓣 .C) (𝓣 .Λ) code.function)
       (WpFn-mono 𝓤 H (W .laws) 𝓣 code.function) (walks (𝓣 .C) (𝓣 .Λ) (fmOf 𝓤 H (W .laws) 𝓣) known)
 
-pub begin-lent-spec : {M : Type 1} → stated.statement M
+pub begin-spec : {M : Type 1} → stated.statement M
 unfolding code.routine tablesOf
-begin-lent-spec 𝓤 H 𝓜 𝓖 𝓡 =
+begin-spec 𝓤 H 𝓜 𝓖 𝓡 =
     entered 𝓤 H (tripleOf 𝓤 H (𝓖 .A) here.signature (here.spec 𝓤 H (𝓖 .A) (𝓜 .mem) (𝓡 .run))) (tables 𝓤 H 𝓜 𝓡 code.env .C)
     (tables 𝓤 H 𝓜 𝓡 code.env .Λ) #here code.function (code.unfolded 𝓤 H 𝓜 𝓡)
     (meets 𝓤 H (𝓖 .A) (givenOf 𝓤 H 𝓜 𝓖) (𝓜 .mem) (𝓡 .run) (tablesOf 𝓤 H 𝓜 (tables 𝓤 H 𝓜 𝓡 code.env))

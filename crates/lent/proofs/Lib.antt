@@ -1,0 +1,2 @@
+-- The steps that the walks of the three functions share.
+pub mod LentSteps
