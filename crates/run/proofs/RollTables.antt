@@ -6,11 +6,15 @@ use mathlib.Core.Bool.{Bool, true, false}
 use mathlib.Core.List.{List, [], _∷_, _++_, map}
 use mathlib.Core.Option.{some, none}
 use mathlib.Core.Path.{_≡_, refl}
+use lib.Dec.{ltb}
+use lib.ListN.{length}
 use Rattle.message.specs.Choice as choice
+use Rattle.message.specs.Choice.{pick}
 use Rattle.message.specs.Numbers.{part, put, numberAt, numberIn, numbersAt, bytesFor, bytesForEach}
 use Rattle.message.specs.Logs.{Log, isPrefix, sameLog, inStep, namesOf, countsOf}
 use Rattle.message.specs.Message.{logMessage, proposalMessage, messageBytes, bytesOf, malformed, readOf, meaningIn}
 use Rattle.message.specs.Store.{logAt}
+use Rattle.message.proofs.TestLaws.{or-true}
 use Rattle.agreement.specs.Sets.{weigh}
 use Rattle.agreement.specs.Reading as reading
 use Rattle.agreement.specs.Reading.{maySupport, supports, hasGrade, under, prefixes, candidates, longestOf, longest}
@@ -24,8 +28,10 @@ use Rattle.bench.specs.Acts.{propose, vote, makes}
 use Rattle.bench.specs.Calls.{Call, begin, receive, act, Reply, refused, done, took, acted}
 use Rattle.bench.specs.Record.{agreementOf, proposalsOf, withAgreement, anyPlace, beyondAgreement, beyondProposals, beyond}
 use Rattle.run.specs.Texts.{ascii, digits}
-use Rattle.run.specs.Roll.{rightBody, wrongMark, misfits, misshapen, callAt, callsFrom}
-use Rattle.run.specs.RollText.{madeText, replyText, lineFor, linesOf, firstLine, openedText, textOf}
+use Rattle.bench.specs.Layout.{outOfRange}
+use Rattle.bench.proofs.Refusals.{open-7}
+use Rattle.run.specs.Roll.{mostRoll, sizesLength, benchesOf, ownOf, rightBody, wrongMark, misfits, misshapen, callAt, callsFrom}
+use Rattle.run.specs.RollText.{noRollText, freshLists, madeText, replyText, lineFor, linesOf, firstLine, openedText, textOf}
 use Rattle.bench.specs.ByRecord.{openOf, beginOf, keptAgreement, keptProposals, receiveOf, actOf, actedOf, candidateOf, lockOf, decisionOf, settled, snappedOne, snappedTwo, changed, fileMessage}
 
 -- ---- which bytes are a roll
@@ -81,6 +87,20 @@ forms =
 pub all-forms : map (λ (r : Form). misshapen (r .bytes)) forms ≡ map (λ (r : Form). r .misshapen) forms
 unfolding misshapen misfits wrongMark rightBody numberIn numberAt bytesFor
 all-forms = refl
+
+-- ---- no roll either, whatever else the bytes say: too many of them, or an n or own number that Open refuses
+
+pub long-no-roll : (s : List ℕ) → ltb mostRoll (length s) ≡ true → textOf s ≡ noRollText
+unfolding textOf misshapen
+long-no-roll s e = rw (e, or-true (ltb (length s) sizesLength))
+
+pick-alike : {A : Type 0} (t : Bool) (x : A) → pick t x x ≡ x
+pick-alike true x = refl
+pick-alike false x = refl
+
+pub refused-no-roll : (s : List ℕ) → outOfRange (benchesOf s) (ownOf s) ≡ true → textOf s ≡ noRollText
+unfolding textOf openedText
+refused-no-roll s e = rw (open-7 (benchesOf s) (ownOf s) freshLists e) (pick-alike (misshapen s) noRollText)
 
 -- ---- what a line says
 
