@@ -122,7 +122,7 @@ fn put_act(text: Text, naming: Naming, v: u32, beat: u32) -> Text {
 pub(crate) fn put_titles(text: Text) -> Text {
     text.put(b"\nwhat the act of a beat does\n")
         .put(
-            b"(without snapshot one or two of what it reads: the same, or none, as if nobody had been heard)\n",
+            b"(a bench that missed snapshot one, or two, of what it reads makes and decides the same, or none)\n",
         )
         .pad(WITHOUT_ONE)
         .put(b"without\n  beat")
