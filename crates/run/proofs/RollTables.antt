@@ -1,5 +1,5 @@
--- The roll in examples, computed (document 01, "The roll"): which bytes are a roll, what a line says, and the whole text of the sample.
--- Assumes nothing.
+-- The roll in examples, computed (document 01, "The roll"): which bytes are a roll, what a line says, and the whole text of the sample; and two
+-- causes of no roll that the examples leave out, as laws of every byte string. Assumes nothing.
 use Prim.Native.Nat.{ℕ}
 use Prim.Native.String.{String}
 use mathlib.Core.Bool.{Bool, true, false}
