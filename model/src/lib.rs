@@ -5,4 +5,5 @@ pub mod history;
 pub mod proved;
 pub mod record;
 pub mod rolls;
+pub mod sketch;
 pub mod volume;

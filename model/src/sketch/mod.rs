@@ -1,0 +1,4 @@
+//! Sketches: a schedule of many benches in a small text notation, played through the proved code, told in plain lines and drawn
+//! in one picture (docs/SKETCHES.md teaches the notation).
+pub mod schedule;
+pub mod story;
