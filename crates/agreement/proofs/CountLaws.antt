@@ -28,6 +28,10 @@ count-next p n m i e f =
     let h : n + m ≡ share (p i) 1 + count i p = omega arith in
     h ∙ ap (λ (k : ℕ). count k p) s
 
+-- by a test found beforehand
+pub count-next-by : (p : ℕ → Bool) (n m i : ℕ) (r : Bool) → n ≡ count i p → r ≡ p i → m ≡ share r 1 → n + m ≡ count (i + 1) p
+count-next-by p n m i r e q f = count-next p n m i e (f ∙ ap (λ (t : Bool). share t 1) q)
+
 -- all senders
 pub count-all : (p : ℕ → Bool) (n i : ℕ) → n ≡ count i p → i ≤ mostSenders → mostSenders ≤ i → n ≡ count mostSenders p
 count-all p n i e h g = let s : i ≡ mostSenders = omega arith in e ∙ ap (λ (k : ℕ). count k p) s

@@ -84,7 +84,7 @@ module _ (names counts : List ℕ) (base : ℕ) (g : Agreement) (among : List Bo
   -- ---- every record
 
   module _ (v : Bool) (x : ℕ) (e : v ≡ lacksRoom names counts base) (f : x ≡ count mostSenders (λ (i : ℕ). ltb mostBlocks (getD (g .lengths) i 0))) where
-    barred : (lacksRoom names counts base || overlong (g .lengths)) ≡ (v || ltb 0 x)
+    pub barred : (lacksRoom names counts base || overlong (g .lengths)) ≡ (v || ltb 0 x)
     unfolding overlong
     barred = rw (← e, ← f)
 

@@ -26,3 +26,5 @@ pub mod NarrowLaws
 pub mod VoteLaws
 pub mod ClimbLaws
 pub mod FindLaws
+-- Counting supporters:
+pub mod TallyLaws

@@ -7,6 +7,7 @@ pub mod Reading
 pub mod Record
 pub mod Filing
 pub mod Grades
+pub mod Tally
 pub mod Proposals
 pub mod Kept
 -- The same by the messages heard, no record asked:

@@ -8,11 +8,12 @@ use lib.Dec.{leb, ltb}
 use lib.ListN.{length, getD}
 use Rattle.message.specs.Limits.{mostBlocks}
 use Rattle.message.specs.Logs.{Block, Log, sameBlock, isPrefix}
-use Rattle.message.specs.Store.{blockAt, logAt}
+use Rattle.message.specs.Store.{blockAt, logAt, prefixAt}
 use Rattle.agreement.specs.Limits.{mostSenders, span, placeOf}
 use Rattle.agreement.specs.Sets.{share, count, member}
-use Rattle.agreement.specs.Record.{filedLog}
+use Rattle.agreement.specs.Record.{isVoter, filedLog}
 use Rattle.agreement.specs.Proposals.{HasPlace}
+use Rattle.agreement.specs.declared.Agreement.{Agreement}
 use Rattle.agreement.specs.declared.Choice.{Choice}
 use Rattle.agreement.specs.declared.Grade.{Grade}
 use Rattle.agreement.specs.declared.Grade.the-variants.{Longest, Nothing}
@@ -113,6 +114,13 @@ TopOf names counts base lengths may all (Longest who l) = Top names counts base 
 
 pub record Climbed (names counts : List ℕ) (base : ℕ) (lengths : List ℕ) (may : List Bool) (all : ℕ) (r : Grade) : Type 0 where
   pub top : TopOf names counts base lengths may all r
+
+-- ---- counting supporters
+
+-- sender j may support, and its log starts with the k blocks at place a
+unfoldable pub backs : List ℕ → List ℕ → ℕ → Agreement → List Bool → ℕ → ℕ → ℕ → Bool
+backs names counts base g among a k j =
+    (isVoter g j && member among j) && prefixAt names counts a k (placeOf base j) (getD (g .lengths) j 0)
 
 -- ---- proposing
 

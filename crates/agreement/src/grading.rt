@@ -4,14 +4,13 @@
 ghost use mathlib.Core.Path.{_≡_};
 ghost use mathlib.Core.Bool.{_&&_};
 ghost use Prim.Native.Nat.{_+_, _≤_, _<_};
-ghost use lib.Dec.{ltb};
-ghost use lib.ListN.{getD, length};
+ghost use lib.ListN.{length};
 ghost use Rattle.message.specs.Limits.{mostBlocks};
 ghost use Rattle.message.specs.Logs.{sameBlock};
 ghost use Rattle.agreement.specs.Limits.{mostSenders};
-ghost use Rattle.agreement.specs.Sets.{share, ones, count, member};
+ghost use Rattle.agreement.specs.Sets.{ones, member};
 ghost use Rattle.agreement.specs.Reading.{longest};
-ghost use Rattle.agreement.specs.Record.{isSender, readingOf};
+ghost use Rattle.agreement.specs.Record.{readingOf};
 ghost use Rattle.agreement.specs.Grades.{Gives, gradeAmong, gradeZero, gradeOne, gradeTwo};
 ghost use Rattle.agreement.specs.Steps.{Readable, SetOf, Next, nextBlock, narrowed, runLength, alike, narrowedBy, Far, Voted, Climbing, Climbed};
 use super::Agreement;
@@ -19,31 +18,12 @@ use super::Grade;
 use super::MOST_BLOCKS;
 use super::MOST_SENDERS;
 use super::room::lacks_room;
+use super::tally::count_in;
+use super::tally::count_over;
+use super::tally::senders;
 
 // How many blocks are looked at together where the majority may go on.
 const RUN: usize = 4;
-
-// A test as a number, to be added up.
-fn added(test: bool) -> usize
-    ensures { λ r. ⌜ (r ≡ share test 1) × (r ≤ 1) ⌝ }
-{
-    test as usize
-}
-
-// |S|: the senders in V or in E.
-fn count_senders(g: Agreement) -> usize
-    ensures { λ r. ⌜ (r ≡ count mostSenders (isSender g)) × (r ≤ mostSenders) ⌝ }
-{
-    let voters = g.voters;
-    let equivocators = g.equivocators;
-    let mut n = 0;
-    let mut i = 0;
-    while i < MOST_SENDERS {
-        n += added(voters[i] | equivocators[i]);
-        i += 1;
-    }
-    n
-}
 
 // The senders that may support: those in both sets.
 fn in_both(voters: [bool; 32], among: [bool; 32]) -> [bool; 32]
@@ -56,32 +36,6 @@ fn in_both(voters: [bool; 32], among: [bool; 32]) -> [bool; 32]
         i += 1;
     }
     both
-}
-
-// How many senders are in the set.
-fn count_in(set: [bool; 32]) -> usize
-    ensures { λ r. ⌜ (r ≡ count mostSenders (member set)) × (r ≤ mostSenders) ⌝ }
-{
-    let mut n = 0;
-    let mut i = 0;
-    while i < MOST_SENDERS {
-        n += added(set[i]);
-        i += 1;
-    }
-    n
-}
-
-// The senders whose number in the row is over l.
-fn count_over(row: [u8; 32], l: usize) -> usize
-    ensures { λ r. ⌜ (r ≡ count mostSenders (λ i. ltb l (getD row i 0))) × (r ≤ mostSenders) ⌝ }
-{
-    let mut n = 0;
-    let mut i = 0;
-    while i < MOST_SENDERS {
-        n += added(l < row[i] as usize);
-        i += 1;
-    }
-    n
 }
 
 // Of the followers, those whose log goes on after l blocks with the block that stands there at sender c's place.
@@ -263,7 +217,7 @@ fn find(names: &[u64], counts: &[u16], g: Agreement, among: [bool; 32], base: u3
     let lengths = g.lengths;
     let voters = g.voters;
     let may = in_both(voters, among);
-    let all = count_senders(g);
+    let all = senders(g);
     if all < 2 * count_in(may) {
         return climb(names, counts, lengths, may, base, all);
     }

@@ -4,6 +4,7 @@ pub mod filing;
 pub mod grading;
 pub mod proposing;
 mod room;
+pub mod tally;
 
 ghost use mathlib.Core.Path.{_≡_};
 ghost use Rattle.agreement.specs.Record.{emptyAgreement, withOne, withTwo};

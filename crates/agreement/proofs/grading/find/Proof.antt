@@ -7,8 +7,8 @@ use Rattle.agreement.proofs.grading.find.Tie as tie
 in-both-requires : tie.Need-in-both-requires
 in-both-requires c κs = search needs
 
-count-senders-requires : tie.Need-count-senders-requires
-count-senders-requires c κs = search needs
+senders-requires : tie.Need-senders-requires
+senders-requires c κs = search needs
 
 count-in-requires : tie.Need-count-in-requires
 count-in-requires c κs = search needs
@@ -17,7 +17,7 @@ mul-if1 : tie.Need-mul-if1
 mul-if1 c = search needs
 
 climb-requires : tie.Need-climb-requires
-climb-requires c κs = climb-asks _ _ _ (c .before .before .before .before .before .before .before .before .args .g) (c .before .before .before .before .before .before .before .before .args .among) _ (c .before .before .before .in-both .ensures) _ (c .before .before .count-senders .ensures .0) _ (c .before .count-in .ensures .0) (search needs) (omega arith)
+climb-requires c κs = climb-asks _ _ _ (c .before .before .before .before .before .before .before .before .args .g) (c .before .before .before .before .before .before .before .before .args .among) _ (c .before .before .before .in-both .ensures) _ (c .before .before .senders .ensures .0) _ (c .before .count-in .ensures .0) (search needs) (omega arith)
 
 returns : tie.Need-returns
 returns c = search find-found
@@ -30,7 +30,7 @@ find-spec =
     tie.close
     (tie.spec
     in-both-requires
-    count-senders-requires
+    senders-requires
     count-in-requires
     mul-if1
     climb-requires

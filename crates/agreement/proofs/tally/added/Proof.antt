@@ -1,7 +1,7 @@
 use Rattle.agreement.proofs.CountLaws.{added-is}
 use borrow.Author.Needs.{needs}
-use Rattle.agreement.proofs.grading.added.Statement.{statement}
-use Rattle.agreement.proofs.grading.added.Tie as tie
+use Rattle.agreement.proofs.tally.added.Statement.{statement}
+use Rattle.agreement.proofs.tally.added.Tie as tie
 
 cast-result : tie.Need-cast-result
 cast-result c = search needs

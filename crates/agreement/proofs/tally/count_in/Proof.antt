@@ -5,8 +5,8 @@ use mathlib.Core.Path.{_≡_}
 use Rattle.agreement.specs.Sets.{count, member}
 use Rattle.agreement.specs.Limits.{mostSenders}
 use borrow.Author.Needs.{needs}
-use Rattle.agreement.proofs.grading.count_in.Statement.{statement}
-use Rattle.agreement.proofs.grading.count_in.Tie as tie
+use Rattle.agreement.proofs.tally.count_in.Statement.{statement}
+use Rattle.agreement.proofs.tally.count_in.Tie as tie
 
 abbrev Inv-loop : tie.InvT-loop
 Inv-loop set n₀ i₀ n i = ((i ≤ mostSenders) × (n ≤ i)) × (n ≡ count i (member set))

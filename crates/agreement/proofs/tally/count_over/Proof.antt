@@ -7,8 +7,8 @@ use Rattle.agreement.specs.Limits.{mostSenders}
 use lib.Dec.{ltb}
 use lib.ListN.{getD}
 use borrow.Author.Needs.{needs}
-use Rattle.agreement.proofs.grading.count_over.Statement.{statement}
-use Rattle.agreement.proofs.grading.count_over.Tie as tie
+use Rattle.agreement.proofs.tally.count_over.Statement.{statement}
+use Rattle.agreement.proofs.tally.count_over.Tie as tie
 
 abbrev Inv-loop : tie.InvT-loop
 Inv-loop l row n₀ i₀ n i = ((i ≤ mostSenders) × (n ≤ i)) × (n ≡ count i (λ j. ltb l (getD row j 0)))

@@ -6,8 +6,8 @@ use Rattle.agreement.specs.Sets.{count, member}
 use Rattle.agreement.specs.Limits.{mostSenders}
 use mathlib.Core.Bool.{_||_}
 use borrow.Author.Needs.{needs}
-use Rattle.agreement.proofs.grading.count_senders.Statement.{statement}
-use Rattle.agreement.proofs.grading.count_senders.Tie as tie
+use Rattle.agreement.proofs.tally.senders.Statement.{statement}
+use Rattle.agreement.proofs.tally.senders.Tie as tie
 
 abbrev Inv-loop : tie.InvT-loop
 Inv-loop voters equivocators n₀ i₀ n i = ((i ≤ mostSenders) × (n ≤ i)) × (n ≡ count i (λ j. member voters j || member equivocators j))
@@ -42,8 +42,8 @@ loop-again c = ((search needs, search needs), search count-next)
 returns : tie.Need-returns Inv-loop μ-loop
 returns c = (search count-all, omega arith)
 
-pub count-senders-spec : {M : Type 1} → statement M
-count-senders-spec =
+pub senders-spec : {M : Type 1} → statement M
+senders-spec =
     tie.close
     (tie.spec
     Inv-loop

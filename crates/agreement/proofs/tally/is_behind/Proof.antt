@@ -1,0 +1,41 @@
+use Rattle.agreement.proofs.TallyLaws.{backs-is}
+use borrow.Author.Needs.{needs}
+use Rattle.agreement.proofs.tally.is_behind.Statement.{statement}
+use Rattle.agreement.proofs.tally.is_behind.Tie as tie
+
+mul-at : tie.Need-mul-at
+mul-at c = search needs
+
+add-at : tie.Need-add-at
+add-at c = search needs
+
+array-read-is-prefix : tie.Need-array-read-is-prefix
+array-read-is-prefix c = search needs
+
+cast-is-prefix : tie.Need-cast-is-prefix
+cast-is-prefix c = search needs
+
+is-prefix-requires : tie.Need-is-prefix-requires
+is-prefix-requires c κs = search needs
+
+array-read-result : tie.Need-array-read-result
+array-read-result c = search needs
+
+array-read-result-2 : tie.Need-array-read-result-2
+array-read-result-2 c = search needs
+
+returns : tie.Need-returns
+returns c = search backs-is
+
+pub is-behind-spec : {M : Type 1} → statement M
+is-behind-spec =
+    tie.close
+    (tie.spec
+    mul-at
+    add-at
+    array-read-is-prefix
+    cast-is-prefix
+    is-prefix-requires
+    array-read-result
+    array-read-result-2
+    returns)

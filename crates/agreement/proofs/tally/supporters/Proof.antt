@@ -1,0 +1,41 @@
+use Rattle.agreement.proofs.TallyLaws.{tally-nowhere, tally-barred, tally-counted}
+use borrow.Author.Needs.{needs}
+use Rattle.agreement.proofs.tally.supporters.Statement.{statement}
+use Rattle.agreement.proofs.tally.supporters.Tie as tie
+
+returns : tie.Need-returns
+returns c = (search tally-nowhere, search needs)
+
+lacks-room-requires : tie.Need-lacks-room-requires
+lacks-room-requires c κs = search needs
+
+count-over-requires : tie.Need-count-over-requires
+count-over-requires c κs = search needs
+
+returns-2 : tie.Need-returns-2
+returns-2 c = (search tally-barred, search needs)
+
+mul-a : tie.Need-mul-a
+mul-a c = search needs
+
+add-a : tie.Need-add-a
+add-a c = search needs
+
+count-behind-requires : tie.Need-count-behind-requires
+count-behind-requires c κs = search needs
+
+returns-3 : tie.Need-returns-3
+returns-3 c = (search tally-counted, search needs)
+
+pub supporters-spec : {M : Type 1} → statement M
+supporters-spec =
+    tie.close
+    (tie.spec
+    returns
+    lacks-room-requires
+    count-over-requires
+    returns-2
+    mul-a
+    add-a
+    count-behind-requires
+    returns-3)
