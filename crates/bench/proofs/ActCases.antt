@@ -22,7 +22,7 @@ use Rattle.bench.proofs.TestedLaws.{is-usable}
 
 -- ---- the row: of a place in a view that is none of the first three
 
-after-second : (place : ℕ) → (place ≡ 0 → ⊥) → (place ≡ 1 → ⊥) → (place ≡ 2 → ⊥) → actAt place ≡ snapping
+pub after-second : (place : ℕ) → (place ≡ 0 → ⊥) → (place ≡ 1 → ⊥) → (place ≡ 2 → ⊥) → actAt place ≡ snapping
 after-second zero a b c = absurd (a refl)
 after-second (suc zero) a b c = absurd (b refl)
 after-second (suc (suc zero)) a b c = absurd (c refl)

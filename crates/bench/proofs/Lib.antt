@@ -35,6 +35,7 @@ pub mod DecidingLaws
 pub mod WrittenLaws
 pub mod MakingLaws
 pub mod ActCases
+pub mod ReadingCases
 -- Worked examples:
 pub mod Odd
 pub mod Order

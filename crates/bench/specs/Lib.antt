@@ -11,5 +11,7 @@ pub mod Record
 pub mod ByRecord
 -- What the code of the calls promises:
 pub mod Answers
+-- What an act reads, for whoever shows a schedule:
+pub mod Readings
 -- What inner functions ask and promise; no reader needs these:
 pub mod Steps

@@ -7,19 +7,26 @@ mod deciding;
 mod filing;
 mod limits;
 mod making;
+mod readings;
 mod record;
 mod seeing;
 
+ghost use Rattle.bench.specs.Calendar.{viewOf, placeIn, actAt};
+ghost use Rattle.bench.specs.Record.{beatOf};
 ghost use Rattle.bench.specs.ByRecord.{openOf, beginOf, receiveOf, actOf};
 ghost use Rattle.bench.specs.Answers.{lentAs, stateOf, OpenGives, BeginGives, ReceiveGives, ActGives};
+ghost use Rattle.bench.specs.Readings.{ReadingGives};
 use acts::act_at;
 use agreement::Agreement;
+use agreement::Grade;
 use agreement::Proposals;
 use beginning::begun;
 use filing::take;
 use limits::is_beyond;
 use limits::is_out_of_range;
 use limits::is_short;
+use readings::read_at;
+use record::beat_of;
 use record::fresh;
 use record::is_idle;
 use record::is_not_above_last;
@@ -97,6 +104,14 @@ pub struct Received {
 pub struct Acted {
     pub answer: Made,
     pub bench: Bench,
+}
+
+// A grade with its count, as an act reads it: the log it uses, and how many support it, or the empty log where there is none, among
+// how many senders.
+pub struct Counted {
+    pub grade: Grade,
+    pub supporters: usize,
+    pub senders: usize,
 }
 
 // Open: a fresh bench. Refused: 7, 8; the record beside a refusal is of no bench.
@@ -218,4 +233,12 @@ pub fn act(
         };
     }
     act_at(bench, names, counts, out, name, count, priority)
+}
+
+// What the act that ends the gathering of the record's beat reads of the agreement before; no call depends on it, and none is made.
+pub fn reading(bench: Bench, names: &[u64], counts: &[u16]) -> Counted
+    ensures { λ r. ⌜ ReadingGives (stateOf bench (now (names .entry)) (now (counts .entry))) (viewOf (beatOf bench)) (actAt (placeIn (beatOf bench))) r ⌝ }
+{
+    let beat = beat_of(bench);
+    read_at(bench, names, counts, beat / 4, beat % 4)
 }

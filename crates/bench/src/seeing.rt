@@ -52,7 +52,7 @@ pub(crate) fn candidate(b: Bench, names: &[u64], counts: &[u16], v: u32) -> Grad
 }
 
 // The longest with grade 1; the empty log for v = 0.
-fn lock(b: Bench, names: &[u64], counts: &[u16], v: u32) -> Grade
+pub(crate) fn lock(b: Bench, names: &[u64], counts: &[u16], v: u32) -> Grade
     ensures { λ r. ⌜ Gives (lockOf (stateOf b (now (names .entry)) (now (counts .entry))) v) (now (names .entry)) (now (counts .entry)) (logsPlace (v - 1)) r ⌝ }
 {
     if v == 0 {
