@@ -235,7 +235,7 @@ pub fn act(
     act_at(bench, names, counts, out, name, count, priority)
 }
 
-// What the act that ends the gathering of the record's beat reads of the agreement before; no call depends on it, and none is made.
+// What the act of the record's beat reads of the agreement before. It is no call: nothing is refused, and nothing changes.
 pub fn reading(bench: Bench, names: &[u64], counts: &[u16]) -> Counted
     ensures { λ r. ⌜ ReadingGives (stateOf bench (now (names .entry)) (now (counts .entry))) (viewOf (beatOf bench)) (actAt (placeIn (beatOf bench))) r ⌝ }
 {
