@@ -101,25 +101,22 @@ pub offer-is : (s : List ℕ) (a n p c : ℕ) → n ≡ numberIn 8 s a → p ≡
 unfolding offerAt
 offer-is s a n p c e f g = rw (e, f, g)
 
-module _ (s : List ℕ) (i a : ℕ) (x : State) (at : ℕ) (l : List ℕ) (b : Bench) (p : ℕ) (ns cs m : List ℕ) where
-  event-begin : (beat : ℕ) → kindAt s i ≡ beginKind → beat ≡ numberIn 4 s a → Prints (begin beat) (beginOf x beat) at l b p ns cs m
-      → Prints (callAt s i a) (stepOf x (callAt s i a)) at l b p ns cs m
+module _ (s : List ℕ) (i a : ℕ) where
+  pub call-begin : (beat : ℕ) → kindAt s i ≡ beginKind → beat ≡ numberIn 4 s a → callAt s i a ≡ begin beat
   unfolding callAt
-  event-begin beat k e f = rw (eq-eqb (kindAt s i) beginKind k, ← e) f
+  call-begin beat k e = rw (eq-eqb (kindAt s i) beginKind k, ← e)
 
-  event-receive : (k : ℕ) → (kindAt s i ≡ beginKind → ⊥) → kindAt s i ≡ receiveKind → k ≡ lengthAt s i
-      → Prints (receive (take (a + k - a) (drop a s))) (receiveOf x (take (a + k - a) (drop a s))) at l b p ns cs m
-      → Prints (callAt s i a) (stepOf x (callAt s i a)) at l b p ns cs m
+  pub call-receive : (k : ℕ) → (kindAt s i ≡ beginKind → ⊥) → kindAt s i ≡ receiveKind → k ≡ lengthAt s i
+      → callAt s i a ≡ receive (take (a + k - a) (drop a s))
   unfolding callAt
-  event-receive k u v e f =
+  call-receive k u v e =
       let n : a + k - a ≡ lengthAt s i = omega arith in
-      rw (ne-eqb (kindAt s i) beginKind u, eq-eqb (kindAt s i) receiveKind v) (rw n at f)
+      rw (ne-eqb (kindAt s i) beginKind u, eq-eqb (kindAt s i) receiveKind v, n)
 
-  event-act : (o : Offer) → (kindAt s i ≡ beginKind → ⊥) → (kindAt s i ≡ receiveKind → ⊥) → o ≡ offerAt s a
-      → Prints (act (record { name = o .name; count = o .count }) (o .priority) freshBuffer) (actOf x (record { name = o .name; count = o .count }) (o .priority) freshBuffer) at l b p ns cs m
-      → Prints (callAt s i a) (stepOf x (callAt s i a)) at l b p ns cs m
+  pub call-act : (o : Offer) → (kindAt s i ≡ beginKind → ⊥) → (kindAt s i ≡ receiveKind → ⊥) → o ≡ offerAt s a
+      → callAt s i a ≡ act (record { name = o .name; count = o .count }) (o .priority) freshBuffer
   unfolding callAt offerAt
-  event-act o u v e f = rw (ne-eqb (kindAt s i) beginKind u, ne-eqb (kindAt s i) receiveKind v) (rw e at f)
+  call-act o u v e = rw (ne-eqb (kindAt s i) beginKind u, ne-eqb (kindAt s i) receiveKind v, e)
 
 -- ---- the events, one after the other
 
@@ -134,7 +131,7 @@ module _ (s : List ℕ) (x : State) (at : ℕ) (l : List ℕ) where
   unfolding linesOf callsFrom put
   lines-end p m y i a e f h = let n : e - i ≡ 0 = omega arith in let g = rw n at f in record { place = omega (arith, g .place); text = sym (g .whole) }
 
-calls-step : (s : List ℕ) (i a m : ℕ) → 0 < m → callsFrom s i a m ≡ callAt s i a ∷ callsFrom s (i + 1) (a + lengthAt s i) (m - 1)
+pub calls-step : (s : List ℕ) (i a m : ℕ) → 0 < m → callsFrom s i a m ≡ callAt s i a ∷ callsFrom s (i + 1) (a + lengthAt s i) (m - 1)
 unfolding callsFrom
 calls-step s i a m h = let e : m ≡ suc (m - 1) = omega arith in ap (callsFrom s i a) e
 
@@ -148,7 +145,7 @@ remains-next z r l p xs ys q m f g = record {
   whole = f .whole ∙ put-append l p xs ys ∙ rw (g .text, g .place);
 }
 
-state-is : (b : Bench) (ns cs : List ℕ) (y : State) → b ≡ y .bench → ns ≡ y .lent .names → cs ≡ y .lent .counts → stateOf b ns cs ≡ y
+pub state-is : (b : Bench) (ns cs : List ℕ) (y : State) → b ≡ y .bench → ns ≡ y .lent .names → cs ≡ y .lent .counts → stateOf b ns cs ≡ y
 state-is b ns cs y e f g = rw (e, f, g)
 
 module _ (z : List ℕ) (end : ℕ) (l : List ℕ) (p : ℕ) (s : List ℕ) (i a e : ℕ) (b : Bench) (ns cs : List ℕ)
@@ -171,7 +168,7 @@ module _ (z : List ℕ) (end : ℕ) (l : List ℕ) (p : ℕ) (s : List ℕ) (i a
       → Remains z end m q (linesOf (stateOf (r .bench) ns′ cs′) (callsFrom s (i + 1) (a + k) (e - (i + 1))))
   begin-next r beat u v g f =
       let x = stateOf b ns cs in
-      lines-next (r .bench) (event-begin s i a x p l (r .bench) q ns′ cs′ m beat u v (begin-prints (beginOf x beat) ns′ cs′ p l q m r beat g f))
+      lines-next (r .bench) (rw (call-begin s i a beat u v) (begin-prints (beginOf x beat) ns′ cs′ p l q m r beat g f))
 
   pub receive-next : (r : Received) → (kindAt s i ≡ beginKind → ⊥) → kindAt s i ≡ receiveKind
       → ReceiveGives (receiveOf (stateOf b ns cs) (take (a + k - a) (drop a s))) r ns′ cs′ → Puts (takenText (r .answer)) p l q m
@@ -179,7 +176,7 @@ module _ (z : List ℕ) (end : ℕ) (l : List ℕ) (p : ℕ) (s : List ℕ) (i a
   receive-next r u v g f =
       let x = stateOf b ns cs in
       let bytes = take (a + k - a) (drop a s) in
-      lines-next (r .bench) (event-receive s i a x p l (r .bench) q ns′ cs′ m k u v long (receive-prints (receiveOf x bytes) ns′ cs′ p l q m r bytes g f))
+      lines-next (r .bench) (rw (call-receive s i a k u v long) (receive-prints (receiveOf x bytes) ns′ cs′ p l q m r bytes g f))
 
   pub act-next : (r : Acted) (o : Offer) (out : List ℕ) → (kindAt s i ≡ beginKind → ⊥) → (kindAt s i ≡ receiveKind → ⊥) → o ≡ offerAt s a
       → ActGives (actOf (stateOf b ns cs) (record { name = o .name; count = o .count }) (o .priority) freshBuffer) r ns′ cs′ out
@@ -189,7 +186,7 @@ module _ (z : List ℕ) (end : ℕ) (l : List ℕ) (p : ℕ) (s : List ℕ) (i a
       let x = stateOf b ns cs in
       let block : Block = record { name = o .name; count = o .count } in
       lines-next (r .bench)
-      (event-act s i a x p l (r .bench) q ns′ cs′ m o u v w
+      (rw (call-act s i a o u v w)
       (act-prints (actOf x block (o .priority) freshBuffer) ns′ cs′ p l q m r block (o .priority) freshBuffer out g f))
 
 -- ---- the whole text

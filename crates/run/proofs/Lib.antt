@@ -36,3 +36,5 @@ pub mod EventLaws
 pub mod DecimalLaws
 pub mod RollHistory
 pub mod RollTables
+-- What is held between a roll's calls:
+pub mod HeldLaws

@@ -3,9 +3,11 @@ pub mod Places
 pub mod Premises
 pub mod Demand
 pub mod TheBench
--- and the text of a roll.
+-- the text of a roll,
 pub mod Texts
 pub mod Roll
 pub mod RollText
+-- and what a bench holds between a roll's calls.
+pub mod Held
 -- What its inner functions ask and give, which no reader needs:
 pub mod RollSteps

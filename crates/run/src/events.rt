@@ -26,7 +26,7 @@ use message::number::u32_in;
 use message::number::u64_in;
 
 // The body of an Act, which starts at this place.
-fn offer_in(roll: &[u8], at: usize) -> Offer
+pub(crate) fn offer_in(roll: &[u8], at: usize) -> Offer
     requires { ⌜ at < 4294967296 ⌝ }
     ensures { λ r. ⌜ r ≡ offerAt (now (roll .entry)) at ⌝ }
 {

@@ -2,6 +2,7 @@
 // as bytes (specs/Roll.antt, specs/RollText.antt).
 mod events;
 mod form;
+mod held;
 mod lines;
 mod texts;
 

@@ -1,0 +1,40 @@
+-- What a bench holds after some of the calls of a roll. Assumes nothing.
+use Prim.Native.Nat.{ℕ, zero, suc, _+_}
+use mathlib.Core.Bool.{Bool, not, _||_}
+use mathlib.Core.List.{List, [], _∷_}
+use Rattle.bench.specs.Layout.{Lent}
+use Rattle.bench.specs.Calls.{Call, State, Opening}
+use Rattle.bench.specs.ByRecord.{openOf}
+use Rattle.run.specs.Roll.{benchesOf, ownOf, lengthAt, bodiesPlace, misshapen, callsFrom}
+use Rattle.run.specs.RollText.{stepOf, isDone}
+
+-- what is held after these calls, each getting what the last one left: what demand 3 is proved of (HeldLaws: held-runs)
+unfoldable pub heldAfter : State → List Call → State
+heldAfter x [] = x
+heldAfter x (c ∷ cs) = heldAfter (stepOf x c .held) cs
+
+-- the first k calls of a roll
+abbrev pub firstCalls : List ℕ → ℕ → List Call
+firstCalls s k = callsFrom s 0 (bodiesPlace s) k
+
+-- Of event i, whose body starts at place a, and the m - 1 events after it: where the body after theirs starts.
+unfoldable pub bodyFrom : List ℕ → ℕ → ℕ → ℕ → ℕ
+bodyFrom s i a zero = a
+bodyFrom s i a (suc m) = bodyFrom s (i + 1) (a + lengthAt s i) m
+
+-- where the body of event k starts
+abbrev pub bodyPlace : List ℕ → ℕ → ℕ
+bodyPlace s k = bodyFrom s 0 (bodiesPlace s) k
+
+-- ---- a roll's bench, opened on lent lists of any contents
+
+abbrev pub openingOf : List ℕ → Lent → Opening
+openingOf s l = openOf (benchesOf s) (ownOf s) l
+
+-- the bytes are no roll, or Open refuses its n or own number or the lists
+unfoldable pub unopened : List ℕ → Lent → Bool
+unopened s l = misshapen s || not (isDone (openingOf s l .reply))
+
+-- what it holds after the first k calls
+abbrev pub heldAt : List ℕ → Lent → ℕ → State
+heldAt s l k = heldAfter (record { bench = openingOf s l .bench; lent = l }) (firstCalls s k)
