@@ -38,3 +38,5 @@ pub mod RollHistory
 pub mod RollTables
 -- What is held between a roll's calls:
 pub mod HeldLaws
+pub mod MadeLaws
+pub mod HeldTables

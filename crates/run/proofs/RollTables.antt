@@ -166,7 +166,10 @@ sampleBodies =
     ++ (beginAt 5 ++ (nothing
     ++ (beginAt 6 ++ nothing))))))))))))
 
-pub sample : textOf (sized 14 (sampleMarks ++ sampleBodies))
+abbrev pub sampleRoll : List ℕ
+sampleRoll = sized 14 (sampleMarks ++ sampleBodies)
+
+pub sample : textOf sampleRoll
     ≡ ascii "bench 0 of 1\nbegin 0 ok\nact proposal 1 0\nbegin 1 ok\nact log 1 0\nbegin 2 ok\nact none 0 0\nbegin 3 ok\nact none 0 0\nbegin 4 ok\nact none 0 0\nbegin 5 ok\nact log 1 0\nbegin 6 ok\nact none 0 1\n"
 unfolding
     textOf openedText firstLine linesOf lineFor replyText madeText digits misshapen misfits wrongMark rightBody callAt callsFrom numberIn openOf

@@ -1,11 +1,11 @@
 -- What a bench holds after some of the calls of a roll. Assumes nothing.
 use Prim.Native.Nat.{ℕ, zero, suc, _+_}
-use mathlib.Core.Bool.{Bool, not, _||_}
+use mathlib.Core.Bool.{Bool, not}
 use mathlib.Core.List.{List, [], _∷_}
 use Rattle.bench.specs.Layout.{Lent}
 use Rattle.bench.specs.Calls.{Call, State, Opening}
 use Rattle.bench.specs.ByRecord.{openOf}
-use Rattle.run.specs.Roll.{benchesOf, ownOf, lengthAt, bodiesPlace, misshapen, callsFrom}
+use Rattle.run.specs.Roll.{benchesOf, ownOf, lengthAt, bodiesPlace, callsFrom}
 use Rattle.run.specs.RollText.{stepOf, isDone}
 
 -- what is held after these calls, each getting what the last one left: what demand 3 is proved of (HeldLaws: held-runs)
@@ -31,10 +31,14 @@ bodyPlace s k = bodyFrom s 0 (bodiesPlace s) k
 abbrev pub openingOf : List ℕ → Lent → Opening
 openingOf s l = openOf (benchesOf s) (ownOf s) l
 
--- the bytes are no roll, or Open refuses its n or own number or the lists
-unfoldable pub unopened : List ℕ → Lent → Bool
-unopened s l = misshapen s || not (isDone (openingOf s l .reply))
+-- Open refuses the roll's n or own number, or the lists
+abbrev pub openRefuses : List ℕ → Lent → Bool
+openRefuses s l = not (isDone (openingOf s l .reply))
 
--- what it holds after the first k calls
+-- what it holds at first,
+abbrev pub openedOn : List ℕ → Lent → State
+openedOn s l = record { bench = openingOf s l .bench; lent = l }
+
+-- and after the first k calls
 abbrev pub heldAt : List ℕ → Lent → ℕ → State
-heldAt s l k = heldAfter (record { bench = openingOf s l .bench; lent = l }) (firstCalls s k)
+heldAt s l k = heldAfter (openedOn s l) (firstCalls s k)

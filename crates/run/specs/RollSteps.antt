@@ -1,9 +1,10 @@
 -- What the inner functions of the roll's text ask and give: no reader needs it to believe the text. Assumes nothing.
-use Prim.Native.Nat.{ℕ, _+_, _≤_}
+use Prim.Native.Nat.{ℕ, _+_, _*_, _≤_}
 use mathlib.Core.Bool.{Bool, false}
 use mathlib.Core.List.{List, _++_}
 use mathlib.Core.Path.{_≡_}
 use lib.ListN.{length}
+use Rattle.message.specs.Limits.{headLength, blockWidth}
 use Rattle.message.specs.Numbers.{put}
 use Rattle.bench.specs.Calls.{Call, Step}
 use Rattle.bench.specs.declared.Start.{Start}
@@ -72,6 +73,13 @@ pub record Prints (c : Call) (t : Step) (at : ℕ) (before : List ℕ) (b : Benc
 -- the body of an Act at place a, as the code holds it
 unfoldable pub offerAt : List ℕ → ℕ → Offer
 offerAt s a = record { name = offeredAt s a .name; priority = priorityAt s a; count = offeredAt s a .count }
+
+-- the bytes of what an Act made, by the code's answer
+unfoldable pub lengthFor : Made → ℕ
+lengthFor makings.Nothing = 0
+lengthFor (makings.Log k) = headLength + blockWidth * k
+lengthFor (makings.Proposal k) = headLength + blockWidth * k
+lengthFor (makings.Refused number) = 0
 
 -- ---- what is asked
 

@@ -4,11 +4,15 @@ mod events;
 mod form;
 mod held;
 mod lines;
+mod made;
 mod texts;
 
 ghost use Rattle.run.specs.RollText.{WritesText};
+ghost use Rattle.run.specs.MadeBytes.{madeOf, GivesMade};
 use events::print_roll;
 use form::is_misshapen;
+use made::is_no_act;
+use made::make_event;
 use texts::put_word;
 
 // The numbers of specs/Roll.antt and of the bench's layout.
@@ -49,4 +53,22 @@ pub extern "C" fn cervakho_roll_text(roll: &[u8], text: &mut [u8]) -> usize
     let mut names = [0; 6208];
     let mut counts = [0; 6208];
     print_roll(roll, &mut names, &mut counts, text)
+}
+
+// The message that event number `event` of a roll made, at the front of the lent buffer, and its length. The buffer is the Act's
+// outgoing buffer; where nothing was made it is left as it was, and the answer is 0. In C: size_t cervakho_roll_made(const uint8_t
+// *roll, size_t roll_length, size_t event, uint8_t *out, size_t out_length).
+#[no_mangle]
+pub extern "C" fn cervakho_roll_made(roll: &[u8], event: usize, out: &mut [u8]) -> usize
+    ensures { λ r. ⌜ GivesMade (madeOf (now (roll .entry)) event (now (out .entry))) (now (out .entry)) r (now (out .exit)) ⌝ }
+{
+    if is_misshapen(roll) {
+        return 0;
+    }
+    if is_no_act(roll, event) {
+        return 0;
+    }
+    let mut names = [0; 6208];
+    let mut counts = [0; 6208];
+    make_event(roll, &mut names, &mut counts, event, out)
 }

@@ -1,0 +1,103 @@
+// The message that an Act of a roll made.
+ghost use mathlib.Core.Path.{_≡_};
+ghost use Prim.Native.Nat.{_≤_, _<_};
+ghost use Rattle.bench.specs.ByRecord.{actOf};
+ghost use Rattle.bench.specs.Answers.{lentAs, stateOf};
+ghost use Rattle.run.specs.Roll.{eventsOf, offeredAt, priorityAt};
+ghost use Rattle.run.specs.RollSteps.{Shaped, lengthFor};
+ghost use Rattle.run.specs.MadeBytes.{noAct, madeBy, actAfter, madeOn, GivesMade};
+use super::ACT_KIND;
+use super::MARK_LENGTH;
+use super::SIZES_LENGTH;
+use super::events::offer_in;
+use super::form::events_of;
+use super::held::body_place;
+use super::held::run_events;
+use bench::Bench;
+use bench::Made;
+use bench::Start;
+
+pub(crate) fn is_no_act(roll: &[u8], event: usize) -> bool
+    requires { ⌜ Shaped (now roll) ⌝ }
+    ensures { λ r. ⌜ r ≡ noAct (now (roll .entry)) event ⌝ }
+{
+    if events_of(roll) <= event {
+        return true;
+    }
+    roll[SIZES_LENGTH + MARK_LENGTH * event] != ACT_KIND
+}
+
+// A message of k blocks has 16 + 10 k bytes.
+fn message_length(answer: Made) -> usize
+    ensures { λ r. ⌜ r ≡ lengthFor answer ⌝ }
+{
+    match answer {
+        Made::Nothing => 0,
+        Made::Log(k) => 16 + 10 * (k as usize),
+        Made::Proposal(k) => 16 + 10 * (k as usize),
+        Made::Refused(_) => 0,
+    }
+}
+
+// The Act whose body starts at this place, and the length of what it made.
+fn act_in(
+    bench: Bench,
+    names: &mut [u64],
+    counts: &mut [u16],
+    roll: &[u8],
+    at: usize,
+    out: &mut [u8],
+) -> usize
+    requires { ⌜ at < 4294967296 ⌝ }
+    ensures { λ r. ⌜ GivesMade (madeBy (actOf (stateOf bench (now (names .entry)) (now (counts .entry))) (offeredAt (now (roll .entry)) at) (priorityAt (now (roll .entry)) at) (now (out .entry)) .answer .reply)) (now (out .entry)) r (now (out .exit)) ⌝ }
+{
+    let offer = offer_in(roll, at);
+    let acted = bench::act(
+        bench,
+        names,
+        counts,
+        out,
+        offer.name,
+        offer.count,
+        offer.priority,
+    );
+    let answer = acted.answer;
+    message_length(answer)
+}
+
+// The calls before this event, an Act, and then it.
+fn make_after(
+    opened: Bench,
+    names: &mut [u64],
+    counts: &mut [u16],
+    roll: &[u8],
+    event: usize,
+    out: &mut [u8],
+) -> usize
+    requires { ⌜ Shaped (now roll) × (event ≤ eventsOf (now roll)) ⌝ }
+    ensures { λ r. ⌜ GivesMade (madeBy (actAfter (stateOf opened (now (names .entry)) (now (counts .entry))) (now (roll .entry)) event (now (out .entry)) .answer .reply)) (now (out .entry)) r (now (out .exit)) ⌝ }
+{
+    let at = body_place(roll, event);
+    let held = run_events(opened, names, counts, roll, event);
+    act_in(held, names, counts, roll, at, out)
+}
+
+// The bench is opened, and the event made, or the roll's n or own number is refused.
+pub(crate) fn make_event(
+    roll: &[u8],
+    names: &mut [u64],
+    counts: &mut [u16],
+    event: usize,
+    out: &mut [u8],
+) -> usize
+    requires { ⌜ Shaped (now roll) × (event ≤ eventsOf (now roll)) ⌝ }
+    ensures { λ r. ⌜ GivesMade (madeOn (now (roll .entry)) (lentAs (now (names .entry)) (now (counts .entry))) event (now (out .entry))) (now (out .entry)) r (now (out .exit)) ⌝ }
+{
+    let started = bench::open(roll[0], roll[1], names, counts);
+    let answer = started.answer;
+    let opened = started.bench;
+    match answer {
+        Start::Refused(_) => 0,
+        Start::Done => make_after(opened, names, counts, roll, event, out),
+    }
+}
