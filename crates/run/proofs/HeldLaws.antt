@@ -6,7 +6,7 @@ use mathlib.Core.List.{List, [], _∷_, _++_, append-assoc}
 use mathlib.Core.Path.{_≡_, refl, sym, ap, _∙_}
 use lib.ListN.{length, take, drop}
 use Rattle.message.specs.Numbers.{numberIn}
-use Rattle.bench.specs.Calls.{Call, begin, receive, act, State, Step}
+use Rattle.bench.specs.Calls.{Call, begin, receive, act, State}
 use Rattle.bench.specs.ByRecord.{beginOf, receiveOf, actOf}
 use Rattle.bench.specs.Answers.{stateOf, BeginGives, ReceiveGives, ActGives}
 use Rattle.bench.specs.Steps.{Leaves}

@@ -1,8 +1,10 @@
 -- The messages that the acts of document 01's sample roll made, and what its bench holds between the calls, computed. Assumes nothing.
 use Prim.Native.Nat.{ℕ}
-use mathlib.Core.List.{List, [], _∷_, map}
+use native.Mathlib.Omega.{arith}
+use mathlib.Core.List.{List, [], _∷_, _++_, map}
 use mathlib.Core.Option.{Option, some, none}
 use mathlib.Core.Path.{_≡_, refl}
+use lib.ListN.{replicate}
 use Rattle.message.specs.Choice as choice
 use Rattle.message.specs.Numbers.{part, put, numberAt, numberIn, numbersAt, bytesFor, bytesForEach}
 use Rattle.message.specs.Logs.{Log, isPrefix, sameLog, inStep, namesOf, countsOf}
@@ -17,11 +19,16 @@ use Rattle.agreement.specs.Grades.{gradeAmong}
 use Rattle.agreement.specs.Proposals.{fileProposalOf, bestOf}
 use Rattle.agreement.specs.Kept.{keptProposal}
 use Rattle.agreement.specs.Heard.{voteAmong}
+use Rattle.agreement.specs.Tally.{supportersOf}
+use Rattle.agreement.specs.declared.Grade.the-variants.{Longest}
 use Rattle.bench.specs.Acts.{propose, vote, makes}
 use Rattle.bench.specs.Record.{agreementOf, proposalsOf, withAgreement, anyPlace, beyondAgreement, beyondProposals, beyond}
 use Rattle.bench.specs.ByRecord.{openOf, beginOf, keptAgreement, keptProposals, receiveOf, actOf, actedOf, candidateOf, lockOf, decisionOf, settled, snappedOne, snappedTwo, changed, fileMessage}
+use Rattle.bench.specs.Readings.{agreementBefore}
 use Rattle.run.specs.Roll.{freshBuffer, rightBody, wrongMark, misfits, misshapen, callAt, callsFrom}
-use Rattle.run.specs.Held.{heldAfter, bodyFrom}
+use Rattle.run.specs.RollText.{freshLists}
+use Rattle.run.specs.Held.{heldAfter, bodyFrom, heldAt}
+use Rattle.run.specs.Page.{flagsFrom, headBytes, setsBytes, slotBytes, readBytes, pageBytes, Shows}
 use Rattle.run.specs.MadeBytes.{noAct, madeOn, madeOf}
 use Rattle.run.proofs.RollTables.{sampleRoll}
 
@@ -45,3 +52,41 @@ unfolding
     fileOf overlong maySupport supports hasGrade under prefixes candidates reading.longer longestOf longest weigh logAt messageBytes
     bytesOf part put numberAt numbersAt bytesFor bytesForEach isPrefix sameLog inStep namesOf countsOf
 sample-made = refl
+
+-- ---- the page
+
+-- the one bench
+abbrev alone : List ℕ
+alone = 1 ∷ replicate 31 0
+
+abbrev nobody : List ℕ
+nobody = replicate 32 0
+
+-- of view 0 both snapshots were taken; of view 1 none yet
+abbrev slot : ℕ → ℕ → List ℕ → List ℕ
+slot v taken snapshot = (v ∷ 0 ∷ 0 ∷ 0 ∷ taken ∷ taken ∷ []) ++ (alone ++ (alone ++ (nobody ++ (snapshot ++ snapshot))))
+
+-- one block at the place of sender 0, which 1 of 1 supports
+abbrev reading-then : List ℕ
+reading-then = 1 ∷ 0 ∷ 1 ∷ 1 ∷ 1 ∷ []
+
+-- after 13 calls beat 6 is begun: its act would decide
+pub sample-page : Shows (heldAt sampleRoll freshLists 13) (replicate 337 0) (slot 0 1 alone ++ (slot 1 0 nobody ++ reading-then))
+unfolding
+    heldAfter callAt callsFrom numberIn openOf
+    beginOf receiveOf readOf malformed meaningIn choice.some actOf actedOf changed snappedOne snappedTwo settled candidateOf lockOf decisionOf fileMessage keptAgreement keptProposals agreementOf
+    proposalsOf withAgreement anyPlace beyondAgreement beyondProposals beyond propose vote makes voteAmong keptProposal fileProposalOf bestOf gradeAmong
+    fileOf overlong maySupport supports hasGrade under prefixes candidates reading.longer longestOf longest weigh logAt messageBytes
+    bytesOf part put numberAt numbersAt bytesFor bytesForEach isPrefix sameLog inStep namesOf countsOf
+    flagsFrom headBytes setsBytes slotBytes readBytes pageBytes agreementBefore supportersOf
+sample-page = record {
+  count = record { grade = Longest 0 1; supporters = 1; senders = 1 };
+  reads = record {
+    grade = record { log = refl; placed = (omega arith, omega arith) };
+    supporters = refl;
+    fewSupporters = omega arith;
+    senders = refl;
+    fewSenders = omega arith;
+  };
+  page = refl;
+}

@@ -39,4 +39,5 @@ pub mod RollTables
 -- What is held between a roll's calls:
 pub mod HeldLaws
 pub mod MadeLaws
+pub mod PageLaws
 pub mod HeldTables

@@ -1,17 +1,15 @@
 -- The message that an Act of a roll made: a law for each return of the code that makes it. Assumes nothing.
 use Prim.Native.Nat.{ℕ, _+_, _*_, _≤_, _<_}
 use native.Mathlib.Omega.{arith}
-use mathlib.Core.Bool.{Bool, true, false, not, _||_}
-use mathlib.Core.List.{List, _++_}
+use mathlib.Core.Bool.{Bool, true, false, not}
+use mathlib.Core.List.{List}
 use mathlib.Core.Option.{Option, some, none}
 use mathlib.Core.Path.{_≡_, refl, sym, ap, _∙_}
 use borrow.Author.Tests.{le-ltb, le-leb, lt-leb, leb-false}
 use lib.Dec.{eqb, leb, ltb}
 use lib.ListN.{length, drop, length-append}
-use Rattle.message.specs.Choice.{pick}
-use Rattle.message.specs.Limits.{headLength, blockWidth}
 use Rattle.message.specs.Logs.{Block}
-use Rattle.message.specs.Message.{Meaning, logMessage, proposalMessage, bytesOf}
+use Rattle.message.specs.Message.{Meaning, logMessage, bytesOf}
 use Rattle.message.proofs.TestLaws.{either, or-false, or-true}
 use Rattle.message.proofs.Acceptance.{length-blocks}
 use Rattle.message.proofs.WrittenFields.{length-message}
@@ -31,7 +29,7 @@ use Rattle.bench.specs.declared.Acted.{Acted}
 use Rattle.bench.proofs.Buffer.{madeIn, act-out, out-made}
 use Rattle.run.specs.declared.Offer.{Offer}
 use Rattle.run.specs.Roll.{eventsOf, kindAt, actKind, misshapen, freshBuffer, offeredAt, priorityAt, callAt}
-use Rattle.run.specs.RollText.{freshLists, stepOf, isDone}
+use Rattle.run.specs.RollText.{freshLists, stepOf}
 use Rattle.run.specs.RollSteps.{offerAt, lengthFor}
 use Rattle.run.specs.Held.{heldAfter, firstCalls, bodyPlace, openingOf}
 use Rattle.run.specs.MadeBytes.{madeBy, noAct, actAfter, madeOn, madeOf, madeLength, GivesMade}

@@ -7,8 +7,9 @@ pub mod TheBench
 pub mod Texts
 pub mod Roll
 pub mod RollText
--- and, for a tool that shows it: what a bench holds between a roll's calls, and the message that an act made.
+-- and, for a tool that shows schedules, what a bench holds between a roll's calls, and the message that an act made.
 pub mod Held
+pub mod Page
 pub mod MadeBytes
 -- What its inner functions ask and give, which no reader needs:
 pub mod RollSteps

@@ -6,6 +6,7 @@ use mathlib.Core.Path.{_≡_}
 use lib.ListN.{length}
 use Rattle.message.specs.Limits.{headLength, blockWidth}
 use Rattle.message.specs.Numbers.{put}
+use Rattle.agreement.specs.Limits.{mostSenders}
 use Rattle.bench.specs.Calls.{Call, Step}
 use Rattle.bench.specs.declared.Start.{Start}
 use Rattle.bench.specs.declared.Start.the-variants as starts
@@ -14,6 +15,7 @@ use Rattle.bench.specs.declared.Taken.the-variants as takings
 use Rattle.bench.specs.declared.Made.{Made}
 use Rattle.bench.specs.declared.Made.the-variants as makings
 use Rattle.bench.specs.declared.Bench.{Bench}
+use Rattle.bench.specs.declared.Counted.{Counted}
 use Rattle.run.specs.declared.Offer.{Offer}
 use Rattle.run.specs.Texts.{ascii, decimal}
 use Rattle.run.specs.Roll.{mostRoll, mostEvents, sizesLength, eventsOf, markPlace, lengthAt, bodiesPlace, misfits, offeredAt, priorityAt}
@@ -86,6 +88,11 @@ lengthFor (makings.Refused number) = 0
 -- the mark of event i lies in the roll
 abbrev pub Marked : List ℕ → ℕ → Type 0
 Marked s i = markPlace (i + 1) ≤ length s
+
+-- each count goes into a byte
+pub record Few (c : Counted) : Type 0 where
+  pub supporters : c .supporters ≤ mostSenders
+  pub senders : c .senders ≤ mostSenders
 
 -- a roll of the right form
 pub record Shaped (s : List ℕ) : Type 0 where

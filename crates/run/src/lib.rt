@@ -1,18 +1,27 @@
-// Many benches: demand 3, its statement in specs/ and its proof in proofs/; and the text of a roll, a list of calls at one bench
-// as bytes (specs/Roll.antt, specs/RollText.antt).
+// Many benches: demand 3, its statement in specs/ and its proof in proofs/; and a roll, a list of calls at one bench as bytes
+// (specs/Roll.antt). Exported are three functions of a roll: cervakho_roll_text, its text (specs/RollText.antt); and for a tool that
+// shows schedules cervakho_roll_page, what the bench holds after some of the calls (specs/Page.antt), and cervakho_roll_made, the
+// message that an act made (specs/MadeBytes.antt).
 mod events;
 mod form;
 mod held;
 mod lines;
 mod made;
+mod page;
+mod slots;
 mod texts;
 
+ghost use Rattle.bench.specs.Answers.{lentAs};
 ghost use Rattle.run.specs.RollText.{WritesText};
+ghost use Rattle.run.specs.Held.{heldAt};
+ghost use Rattle.run.specs.Page.{noPage, GivesPage};
 ghost use Rattle.run.specs.MadeBytes.{madeOf, GivesMade};
 use events::print_roll;
+use form::events_of;
 use form::is_misshapen;
 use made::is_no_act;
 use made::make_event;
+use page::page_roll;
 use texts::put_word;
 
 // The numbers of specs/Roll.antt and of the bench's layout.
@@ -23,6 +32,10 @@ const MOST_EVENTS: usize = 1024;
 const SIZES_LENGTH: usize = 4;
 
 const MARK_LENGTH: usize = 4;
+
+const MOST_SENDERS: usize = 32;
+
+const PAGE_LENGTH: usize = 2 * (6 + 5 * MOST_SENDERS) + 5;
 
 const BEGIN_KIND: u8 = 1;
 
@@ -53,6 +66,33 @@ pub extern "C" fn cervakho_roll_text(roll: &[u8], text: &mut [u8]) -> usize
     let mut names = [0; 6208];
     let mut counts = [0; 6208];
     print_roll(roll, &mut names, &mut counts, text)
+}
+
+// The page of a roll, at the front of the lent buffer, and its length: what the bench holds after the first calls, made on the lent
+// lists, which are left as it holds them. The lists may hold anything at first. The answer is 0, and lists and buffer are left as they
+// were, where the buffer is too short, the roll has another form or fewer calls, or Open refuses. In C: size_t
+// cervakho_roll_page(const uint8_t *roll, size_t roll_length, size_t calls, uint64_t *names, size_t names_length, uint16_t *counts,
+// size_t counts_length, uint8_t *page, size_t page_length).
+#[no_mangle]
+pub extern "C" fn cervakho_roll_page(
+    roll: &[u8],
+    calls: usize,
+    names: &mut [u64],
+    counts: &mut [u16],
+    page: &mut [u8],
+) -> usize
+    ensures { λ r. ⌜ GivesPage (noPage (now (roll .entry)) calls (lentAs (now (names .entry)) (now (counts .entry))) (now (page .entry))) (heldAt (now (roll .entry)) (lentAs (now (names .entry)) (now (counts .entry))) calls) (lentAs (now (names .entry)) (now (counts .entry))) (now (page .entry)) r (now (names .exit)) (now (counts .exit)) (now (page .exit)) ⌝ }
+{
+    if page.len() < PAGE_LENGTH {
+        return 0;
+    }
+    if is_misshapen(roll) {
+        return 0;
+    }
+    if events_of(roll) < calls {
+        return 0;
+    }
+    page_roll(roll, calls, names, counts, page)
 }
 
 // The message that event number `event` of a roll made, at the front of the lent buffer, and its length. The buffer is the Act's

@@ -1,6 +1,6 @@
 use Rattle.run.proofs.HeldLaws.{body-start, body-next, body-end}
 use native.Mathlib.Omega.{arith}
-use mathlib.Core.Path.{_≡_, refl}
+use mathlib.Core.Path.{_≡_}
 use Prim.Native.Nat.{_+_, _-_, _*_, _≤_}
 use Rattle.run.specs.Roll.{bodiesPlace}
 use Rattle.run.specs.Held.{bodyFrom}

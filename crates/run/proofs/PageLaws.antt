@@ -1,0 +1,199 @@
+-- The page of a roll: its bytes one after the other, and a law for each return of the code that writes it. Assumes nothing.
+use Prim.Native.Nat.{ℕ, zero, suc, _+_, _-_, _/_, _%_, _≤_, _<_}
+use native.Mathlib.Omega.{arith}
+use mathlib.Core.Bool.{Bool, true, false}
+use mathlib.Core.List.{List, [], _∷_, _++_}
+use mathlib.Core.Path.{_≡_, refl, sym, ap, _∙_}
+use borrow.Author.Tests.{lt-ltb, le-ltb}
+use lib.ListN.{length, getD, set, length-append}
+use Rattle.message.specs.Numbers.{part, put, bytesFor}
+use Rattle.message.proofs.TestLaws.{or-true}
+use Rattle.message.proofs.NumberLaws.{length-bytes}
+use Rattle.message.proofs.PartLaws.{length-part}
+use Rattle.agreement.specs.Sets.{member}
+use Rattle.agreement.specs.declared.Agreement.{Agreement}
+use Rattle.agreement.specs.declared.Grade.{Grade}
+use Rattle.agreement.specs.declared.Grade.the-variants.{Longest, Nothing}
+use Rattle.bench.specs.Layout.{Lent}
+use Rattle.bench.specs.Calendar.{Act}
+use Rattle.bench.specs.Calls.{refused, done, State}
+use Rattle.bench.specs.Answers.{stateOf, startReply, OpenGives}
+use Rattle.bench.specs.Readings.{ReadingGives}
+use Rattle.bench.specs.Steps.{Leaves}
+use Rattle.bench.specs.declared.Bench.{Bench}
+use Rattle.bench.specs.declared.Counted.{Counted}
+use Rattle.bench.specs.declared.Start.the-variants as starts
+use Rattle.bench.specs.declared.Started.{Started}
+use Rattle.run.specs.Roll.{eventsOf, misshapen}
+use Rattle.run.specs.RollSteps.{Puts, Few}
+use Rattle.run.specs.Held.{heldAfter, firstCalls, openingOf, openRefuses, heldAt}
+use Rattle.run.specs.Page.{flag, flagsFrom, setBytes, headBytes, setsBytes, slotBytes, gradeBytes, readBytes, pageBytes, pageLength, ReadsNow, GivesPage, scantPage, noPage}
+use Rattle.run.proofs.TextLaws.{puts-then, puts-three}
+use Rattle.run.proofs.EventLaws.{state-is}
+
+-- ---- a set
+
+pub flag-is : (t : Bool) → mir.Val.boolByte t ≡ flag t
+flag-is true = refl
+flag-is false = refl
+
+length-flags : (s : List Bool) (i m : ℕ) → length (flagsFrom s i m) ≡ m
+unfolding flagsFrom
+length-flags s i zero = refl
+length-flags s i (suc m) = ap suc (length-flags s (i + 1) m)
+
+flags-step : (s : List Bool) (i m : ℕ) → 0 < m → flagsFrom s i m ≡ flag (member s i) ∷ flagsFrom s (i + 1) (m - 1)
+unfolding flagsFrom
+flags-step s i m h = let e : m ≡ suc (m - 1) = omega arith in ap (flagsFrom s i) e
+
+module _ (z l : List ℕ) (s : List Bool) (p i : ℕ) (e : z ≡ put l p (flagsFrom s i (32 - i))) where
+  pub flag-next : (x : ℕ) → i < 32 → x ≡ flag (member s i) → z ≡ put (set l p x) (p + 1) (flagsFrom s (i + 1) (32 - (i + 1)))
+  unfolding put
+  flag-next x h q = let n : 32 - i - 1 ≡ 32 - (i + 1) = omega arith in e ∙ rw (flags-step s i (32 - i) (omega arith), n, q)
+
+  flags-end : 32 ≤ i → l ≡ z
+  unfolding put flagsFrom
+  flags-end h = let n : 32 - i ≡ 0 = omega arith in sym (e ∙ rw n)
+
+pub set-put : (before l : List ℕ) (s : List Bool) (at p i : ℕ) → put before at (setBytes s) ≡ put l p (flagsFrom s i (32 - i)) → p ≡ at + i → i ≤ 32 → 32 ≤ i
+    → Puts (setBytes s) at before p l
+set-put before l s at p i e q h k = record {
+  place = let n = length-flags s 0 32 in omega arith;
+  text = flags-end (put before at (setBytes s)) l s p i e k;
+}
+
+-- ---- a row of numbers
+
+row-step : (row : List ℕ) (i m : ℕ) → 0 < m → part row i m ≡ getD row i 0 ∷ part row (i + 1) (m - 1)
+unfolding part
+row-step row i m h = let e : m ≡ suc (m - 1) = omega arith in ap (part row i) e
+
+module _ (z l row : List ℕ) (p i : ℕ) (e : z ≡ put l p (part row i (32 - i))) where
+  pub row-next : (x : ℕ) → i < 32 → x ≡ getD row i 0 → z ≡ put (set l p x) (p + 1) (part row (i + 1) (32 - (i + 1)))
+  unfolding put
+  row-next x h q = let n : 32 - i - 1 ≡ 32 - (i + 1) = omega arith in e ∙ rw (row-step row i (32 - i) (omega arith), n, q)
+
+  row-end : 32 ≤ i → l ≡ z
+  unfolding put part
+  row-end h = let n : 32 - i ≡ 0 = omega arith in sym (e ∙ rw n)
+
+pub row-put : (before l row : List ℕ) (at p i : ℕ) → put before at (part row 0 32) ≡ put l p (part row i (32 - i)) → p ≡ at + i → i ≤ 32 → 32 ≤ i
+    → Puts (part row 0 32) at before p l
+row-put before l row at p i e q h k = record {
+  place = let n = length-part row 0 32 in omega arith;
+  text = row-end (put before at (part row 0 32)) l row p i e k;
+}
+
+-- ---- an agreement
+
+module _ (g : Agreement) (at : ℕ) (l : List ℕ) (p : ℕ) (m : List ℕ) where
+  pub head-put : (x y : ℕ) → x ≡ flag (g .hasone) → y ≡ flag (g .hastwo)
+      → Puts (g .view % 256 ∷ g .view / 256 % 256 ∷ g .view / 256 / 256 % 256 ∷ g .view / 256 / 256 / 256 % 256 ∷ x ∷ y ∷ []) at l p m
+      → Puts (headBytes g) at l p m
+  unfolding headBytes bytesFor
+  head-put x y e f h = rw (e, f) at h
+
+  module _ (q : ℕ) (o : List ℕ) (r : ℕ) (u : List ℕ) where
+    pub slot-put : Puts (headBytes g) at l p m → Puts (part (g .lengths) 0 32) p m q o → Puts (setsBytes g) q o r u → Puts (slotBytes g) at l r u
+    unfolding slotBytes
+    slot-put a b c = puts-three (headBytes g) (part (g .lengths) 0 32) (setsBytes g) at l p m q o r u a b c
+
+    pub sets-put : (r′ : ℕ) (u′ : List ℕ) → Puts (setBytes (g .voters)) at l p m → Puts (setBytes (g .equivocators)) p m q o
+        → Puts (setBytes (g .one)) q o r u → Puts (setBytes (g .two)) r u r′ u′ → Puts (setsBytes g) at l r′ u′
+    unfolding setsBytes
+    sets-put r′ u′ a b c d =
+        puts-then (setBytes (g .voters)) (setBytes (g .equivocators) ++ (setBytes (g .one) ++ setBytes (g .two))) at l p m r′ u′ a
+        (puts-three (setBytes (g .equivocators)) (setBytes (g .one)) (setBytes (g .two)) p m q o r u r′ u′ b c d)
+
+-- ---- what is read
+
+module _ (c : Counted) (at : ℕ) (l : List ℕ) (p : ℕ) (m : List ℕ) where
+  pub read-nothing : c .grade ≡ Nothing → Puts (0 ∷ 0 ∷ 0 ∷ c .supporters ∷ c .senders ∷ []) at l p m → Puts (readBytes c) at l p m
+  unfolding readBytes
+  read-nothing e h = rw e h
+
+  pub read-longest : (i k : ℕ) → c .grade ≡ Longest i k → Puts (1 ∷ i ∷ k ∷ c .supporters ∷ c .senders ∷ []) at l p m → Puts (readBytes c) at l p m
+  unfolding readBytes
+  read-longest i k e h = rw e h
+
+pub counts-few : (x : State) (v : ℕ) (a : Act) (c : Counted) → ReadingGives x v a c → Few c
+counts-few x v a c g = record { supporters = g .fewSupporters; senders = g .fewSenders }
+
+-- ---- the page
+
+pub page-put : (b : Bench) (c : Counted) (at : ℕ) (l : List ℕ) (p : ℕ) (m : List ℕ) (q : ℕ) (o : List ℕ) (r : ℕ) (u : List ℕ) → Puts (slotBytes (b .even)) at l p m
+    → Puts (slotBytes (b .odd)) p m q o → Puts (readBytes c) q o r u → Puts (pageBytes b c) at l r u
+unfolding pageBytes
+page-put b c at l p m q o r u f g h = puts-three (slotBytes (b .even)) (slotBytes (b .odd)) (readBytes c) at l p m q o r u f g h
+
+slot-length : (g : Agreement) → length (slotBytes g) ≡ 166
+unfolding slotBytes headBytes setsBytes
+slot-length g = simp (length-append, length-bytes, length-part, length-flags)
+
+grade-length : (a : Grade) → length (gradeBytes a) ≡ 3
+grade-length Nothing = refl
+grade-length (Longest i k) = refl
+
+pub page-length : (b : Bench) (c : Counted) → length (pageBytes b c) ≡ pageLength
+unfolding pageBytes readBytes
+page-length b c = simp (length-append, slot-length, grade-length)
+
+-- ---- the calls before it
+
+pub page-given : (x : State) (b : Bench) (ns cs : List ℕ) (l : Lent) (c : Counted) (before : List ℕ) (r : ℕ) (after : List ℕ) → Leaves x b ns cs
+    → ReadsNow (stateOf b ns cs) c → Puts (pageBytes b c) 0 before r after → GivesPage false x l before r ns cs after
+page-given x b ns cs l c before r after h g p = record {
+  answered = let n = page-length b c in p .place ∙ omega arith;
+  nameList = h .nameList;
+  countList = h .countList;
+  kept = λ e. let z : _≡_ {A = ℕ} 0 1 = cc in absurd (omega arith);
+  shown = λ e. record {
+    count = c;
+    reads = rw (← state-is b ns cs x (h .bench) (h .nameList) (h .countList)) g;
+    page = rw (h .bench) at (p .text);
+  };
+}
+
+page-refused : (t : Bool) (x : State) (l : Lent) (before : List ℕ) → t ≡ true → GivesPage t x l before 0 (l .names) (l .counts) before
+page-refused t x l before e = record {
+  answered = rw e;
+  nameList = rw e;
+  countList = rw e;
+  kept = λ f. refl;
+  shown = λ f. let z : _≡_ {A = ℕ} 0 1 = cc in absurd (omega arith);
+}
+
+module _ (s : List ℕ) (l : Lent) (k : ℕ) (before : List ℕ) (r : Started) (ns cs : List ℕ) (g : OpenGives (openingOf s l) l r ns cs) where
+  pub page-shut : (number : ℕ) → r .answer ≡ starts.Refused number → GivesPage (openRefuses s l) (heldAt s l k) l before 0 (l .names) (l .counts) before
+  unfolding startReply
+  page-shut number e =
+      let d : refused number ≡ openingOf s l .reply = rw e at (g .answered) in page-refused (openRefuses s l) (heldAt s l k) l before (rw (← d))
+
+  pub page-opened : (n : ℕ) (ns′ cs′ after : List ℕ) → r .answer ≡ starts.Done
+      → GivesPage false (heldAfter (stateOf (r .bench) (l .names) (l .counts)) (firstCalls s k)) l before n ns′ cs′ after
+      → GivesPage (openRefuses s l) (heldAt s l k) l before n ns′ cs′ after
+  unfolding startReply
+  page-opened n ns′ cs′ after did f = let d : done ≡ openingOf s l .reply = rw did at (g .answered) in rw (← d) (rw (g .bench) at f)
+
+-- ---- of a whole roll
+
+module _ (s : List ℕ) (k : ℕ) (l : Lent) (before : List ℕ) where
+  pub page-scant : length before < pageLength → GivesPage (noPage s k l before) (heldAt s l k) l before 0 (l .names) (l .counts) before
+  unfolding noPage
+  page-scant h = page-refused (noPage s k l before) (heldAt s l k) l before (rw (lt-ltb (length before) pageLength h))
+
+  module _ (v : Bool) (t : v ≡ misshapen s) where
+    pub page-no-roll : v ≡ true → GivesPage (noPage s k l before) (heldAt s l k) l before 0 (l .names) (l .counts) before
+    unfolding noPage
+    page-no-roll e = page-refused (noPage s k l before) (heldAt s l k) l before (rw (← t, e) (or-true (scantPage before)))
+
+    module _ (e : ℕ) (q : e ≡ eventsOf s) where
+      pub page-few : e < k → GivesPage (noPage s k l before) (heldAt s l k) l before 0 (l .names) (l .counts) before
+      unfolding noPage
+      page-few h =
+          page-refused (noPage s k l before) (heldAt s l k) l before (rw (lt-ltb (eventsOf s) k (omega arith), or-true (misshapen s)) (or-true (scantPage before)))
+
+      pub page-whole : (n : ℕ) (ns cs after : List ℕ) → pageLength ≤ length before → v ≡ false → k ≤ e
+          → GivesPage (openRefuses s l) (heldAt s l k) l before n ns cs after → GivesPage (noPage s k l before) (heldAt s l k) l before n ns cs after
+      unfolding noPage
+      page-whole n ns cs after h f i g = rw (le-ltb (length before) pageLength h, ← t, f, le-ltb (eventsOf s) k (omega arith)) g

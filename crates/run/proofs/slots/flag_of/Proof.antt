@@ -1,0 +1,13 @@
+use Rattle.run.proofs.PageLaws.{flag-is}
+use borrow.Author.Needs.{needs}
+use Rattle.run.proofs.slots.flag_of.Statement.{statement}
+use Rattle.run.proofs.slots.flag_of.Tie as tie
+
+cast-result : tie.Need-cast-result
+cast-result c = search needs
+
+returns : tie.Need-returns
+returns c = flag-is (c .args .test)
+
+pub flag-of-spec : {M : Type 1} → statement M
+flag-of-spec = tie.close (tie.spec cast-result returns)
