@@ -24,7 +24,7 @@ all sleeps 11
 5 sends PROPOSAL v1 [5 6*3] to all at 5
 5 sends PROPOSAL v1000000 as 3 [5,6*0 , 7] priority 0 to 0-2 4 at 9
 LOG v0 of 3 [7] never reaches 2
-LOG v0 of 3 [8] reaches 0 1 at 2
+LOG v0 of 3 [8] reaches 0-2 at 2
 LOG v1 of 4 reaches all at 7
 PROPOSAL v0 of 0 never reaches all
 PROPOSAL v2 of 4 [5] reaches 2 at 9
@@ -112,7 +112,7 @@ fn whole() -> Schedule {
         ],
         fates: vec![
             fate(Kind::Log, 0, 3, Some(&[(7, 1)]), &[2], None),
-            fate(Kind::Log, 0, 3, Some(&[(8, 1)]), &[0, 1], Some(2)),
+            fate(Kind::Log, 0, 3, Some(&[(8, 1)]), &[0, 1, 2], Some(2)),
             fate(Kind::Log, 1, 4, None, &[0, 1, 2, 4], Some(7)),
             fate(Kind::Proposal, 0, 0, None, &[0, 1, 2, 4], None),
             fate(Kind::Proposal, 2, 4, Some(&[(5, 1)]), &[2], Some(9)),

@@ -126,6 +126,10 @@ LOG v0 of 1 reaches all at 3
 2 sleeps 3
     line 4, column 21: expected a bench that begins beat 3
     (bench 2 does not begin beat 3, so nothing can be handed to it then), found 'all'
+LOG v0 of 1 reaches 0 1 at 3
+1 sleeps 3
+    line 4, column 23: expected a bench that begins beat 3
+    (bench 1 does not begin beat 3, so nothing can be handed to it then), found '1'
 LOG v0 of 3 [5] reaches 0 2 at 3
 LOG v0 of 3 never reaches 2
     line 5, column 27: expected another bench (when this message reaches bench 2 is said already), found '2'
