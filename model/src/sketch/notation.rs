@@ -18,6 +18,8 @@ mod words;
 mod faulty;
 #[cfg(test)]
 mod sound;
+#[cfg(test)]
+mod taught;
 
 pub use fault::Fault;
 
