@@ -7,6 +7,17 @@ use std::collections::{BTreeMap, BTreeSet};
 /// Senders with the log of each.
 pub type Voters<'a> = BTreeMap<u8, &'a [Block]>;
 
+/// What is read of an agreement.
+#[derive(Clone, PartialEq, Eq, Default, Debug)]
+pub struct Count {
+    /// The longest log with the grade.
+    pub log: Option<Log>,
+    /// How many support it; where there is none, how many support the empty log.
+    pub supporters: usize,
+    /// What a majority is a majority of: |S|, but for two of the mistakes.
+    pub senders: usize,
+}
+
 /// The LOGs of one view that count so far.
 pub struct Agreement<'a> {
     pub logs: Vec<&'a Message>,
@@ -37,16 +48,26 @@ impl<'a> Agreement<'a> {
         heard.map(|message| (message.sender, message.log.as_slice())).collect()
     }
 
-    /// The longest log with grade 0, or none.
-    pub fn grade_0(&self, rules: Rules, n: u8) -> Option<Log> {
-        self.longest(rules, n, &self.voters())
+    /// Whoever may support in grades 1 and 2, each with its log.
+    pub fn counted_within(&self, rules: Rules, snapshot: &Voters<'a>) -> Voters<'a> {
+        let mut counted = if rules == Rules::SnapshotJudges {
+            snapshot.clone()
+        } else {
+            self.voters()
+        };
+        counted.retain(|sender, _| snapshot.contains_key(sender));
+        counted
     }
 
-    /// The longest log with grade 1 or 2, or none: only supporters also in the snapshot count.
-    pub fn grade_within(&self, rules: Rules, n: u8, snapshot: &Voters<'a>) -> Option<Log> {
-        let mut counted = self.voters();
-        counted.retain(|sender, _| snapshot.contains_key(sender));
-        self.longest(rules, n, if rules == Rules::SnapshotJudges { snapshot } else { &counted })
+    /// The longest log that a majority of `counted` supports, with its count.
+    pub fn count(&self, rules: Rules, n: u8, counted: &Voters) -> Count {
+        let log = self.longest(rules, n, counted);
+        let supported = log.as_deref().unwrap_or_default();
+        Count {
+            supporters: counted.values().filter(|theirs| is_prefix(supported, theirs)).count(),
+            senders: self.whole(rules, n),
+            log,
+        }
     }
 
     /// The longest log that a majority of `counted` supports: every prefix of every log sent is tried, the empty one too.

@@ -1,6 +1,6 @@
 //! The bench: its list of what happened, the four calls, and what follows from the list (document 01, Four calls and Calendar
 //! of acts).
-use super::agreement::{Agreement, Voters};
+use super::agreement::{Agreement, Count, Voters};
 use super::message::{is_prefix, Block, Kind, Log, Message, LAST_VIEW, MOST_BLOCKS};
 use std::collections::HashMap;
 
@@ -56,6 +56,15 @@ impl Rules {
         Rules::SnapshotJudges,
         Rules::VoteWithoutLock,
     ];
+
+    /// The snapshot that grade 1 or 2 is read with: the earlier one serves the later grade, but for one of the mistakes.
+    pub fn snapshot_for(self, grade: u8) -> u8 {
+        if self == Rules::SnapshotsSwapped {
+            grade
+        } else {
+            3 - grade
+        }
+    }
 }
 
 /// One entry of the list: a call that was not refused, with the beat it fell in.
@@ -147,6 +156,33 @@ impl Bench {
         self.own
     }
 
+    /// GA v by what was taken or made so far.
+    pub fn heard(&self, view: u32) -> Agreement<'_> {
+        self.agreement(view, self.events.len())
+    }
+
+    /// Snapshot one or two of GA v, if it was taken.
+    pub fn snapshot(&self, view: u32, number: u8) -> Option<Voters<'_>> {
+        let place = self.act_at(4 * view + 1 + u32::from(number))?;
+        (view <= LAST_VIEW).then(|| self.agreement(view, place).voters())
+    }
+
+    /// What an act at the beat last begun reads of the agreement before, whether or not it may act.
+    pub fn reading(&self) -> Count {
+        let beat = self.beat().unwrap_or(0);
+        let (Some(view), grade @ 0..=2) = ((beat / 4).checked_sub(1), (beat % 4) as u8) else {
+            return Count::default();
+        };
+        let count = |counted: &Voters| self.heard(view).count(self.rules, self.n, counted);
+        match self.counted(view, grade) {
+            Some(counted) => count(&counted),
+            None => Count {
+                log: None,
+                ..count(&Voters::new())
+            },
+        }
+    }
+
     fn begin(&mut self, beat: u32) -> Reply {
         if beat > LAST_BEAT {
             return Reply::Refused(10);
@@ -189,7 +225,7 @@ impl Bench {
             _ => None,
         };
         if beat % 4 == 2 && view > 0 {
-            let decided = self.grade_2(view - 1);
+            let decided = self.grade(view - 1, 2);
             self.decisions.extend(decided.map(|log| (beat, log)));
         }
         if let Some(message) = &made {
@@ -253,34 +289,25 @@ impl Bench {
         }
     }
 
-    /// V of GA v at the act of this beat, if it acted then.
-    fn snapshot(&self, view: u32, beat: u32) -> Option<Voters<'_>> {
-        self.act_at(beat).map(|place| self.agreement(view, place).voters())
+    /// The longest log with this grade of GA v, or none.
+    fn grade(&self, view: u32, grade: u8) -> Option<Log> {
+        let counted = self.counted(view, grade)?;
+        self.heard(view).count(self.rules, self.n, &counted).log
     }
 
-    fn grade_0(&self, view: u32) -> Option<Log> {
-        self.agreement(view, self.events.len()).grade_0(self.rules, self.n)
-    }
-
-    fn grade_1(&self, view: u32) -> Option<Log> {
-        let offset = if self.rules == Rules::SnapshotsSwapped { 2 } else { 3 };
-        self.grade_within(view, 4 * view + offset)
-    }
-
-    fn grade_2(&self, view: u32) -> Option<Log> {
-        let offset = if self.rules == Rules::SnapshotsSwapped { 3 } else { 2 };
-        self.grade_within(view, 4 * view + offset)
-    }
-
-    fn grade_within(&self, view: u32, snapped: u32) -> Option<Log> {
-        let snapshot = self.snapshot(view, snapped)?;
-        self.agreement(view, self.events.len())
-            .grade_within(self.rules, self.n, &snapshot)
+    /// Whoever may support in this grade of GA v, unless it needs a snapshot that was not taken.
+    fn counted(&self, view: u32, grade: u8) -> Option<Voters<'_>> {
+        let heard = self.heard(view);
+        if grade == 0 {
+            return Some(heard.voters());
+        }
+        let snapshot = self.snapshot(view, self.rules.snapshot_for(grade))?;
+        Some(heard.counted_within(self.rules, &snapshot))
     }
 
     /// The PROPOSAL of an act at 4v.
     fn proposal(&self, view: u32, block: Block, priority: u64) -> Option<Message> {
-        let mut log = if view == 0 { vec![] } else { self.grade_0(view - 1)? };
+        let mut log = if view == 0 { vec![] } else { self.grade(view - 1, 0)? };
         if block.name == 0 || log.len() >= MOST_BLOCKS {
             return None;
         }
@@ -296,7 +323,7 @@ impl Bench {
 
     /// The LOG of an act at 4v+1: the vote.
     fn vote(&self, view: u32) -> Option<Message> {
-        let lock = if view == 0 { vec![] } else { self.grade_1(view - 1)? };
+        let lock = if view == 0 { vec![] } else { self.grade(view - 1, 1)? };
         let log = self.top_proposal(view, &lock).unwrap_or(lock);
         Some(Message {
             kind: Kind::Log,

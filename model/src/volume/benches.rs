@@ -19,12 +19,13 @@ pub struct Volume {
 impl Volume {
     pub fn open(rules: Rules, n: u8, numbers: &[u8], withheld: HashSet<Withheld>) -> Volume {
         let keepers = numbers.iter().map(|&own| Keeper::open(rules, n, own)).collect();
-        Volume {
-            n,
-            keepers,
-            post: Post::new(numbers.to_vec(), withheld),
-            votes: vec![],
-        }
+        Volume::with(n, keepers, Post::withholding(numbers.to_vec(), withheld))
+    }
+
+    /// These rule-keepers, none of which has made a call, and this post between them.
+    pub fn with(n: u8, keepers: Vec<Keeper>, post: Post) -> Volume {
+        let votes = vec![];
+        Volume { n, keepers, post, votes }
     }
 
     pub fn begin(&mut self, place: usize, beat: u32) -> Reply {
@@ -48,7 +49,7 @@ impl Volume {
 
     /// Hands over everything that must be with the bench before it acts at this beat.
     pub fn hand_due(&mut self, place: usize, beat: u32) {
-        for bytes in self.post.due(place, beat) {
+        for bytes in self.post.due(place, beat, true) {
             self.hand(place, &bytes);
         }
     }

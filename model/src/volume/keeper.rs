@@ -1,7 +1,9 @@
 //! A rule-keeper: a bench, and the list of its calls with what each gave back.
-use crate::history::bench::{Bench, Call, Reply, Rules};
+use crate::history::bench::{Call, Reply, Rules};
 use crate::history::message::Log;
-use crate::history::roll;
+use crate::sketch::machine::model::Model;
+use crate::sketch::machine::Machine;
+use crate::sketch::page::Page;
 
 /// One call of the list, and what was seen of the bench after it.
 pub struct Entry {
@@ -20,43 +22,55 @@ pub struct Entry {
 pub struct Keeper {
     pub own: u8,
     pub n: u8,
-    bench: Bench,
+    machine: Box<dyn Machine>,
+    /// The text of a roll's first line.
+    pub first_line: String,
     /// The log that stands before any call.
     pub fresh: Log,
     pub list: Vec<Entry>,
+    /// The beat last begun.
+    beat: Option<u32>,
     /// The beat of the gathering under way.
     pub gathering: Option<u32>,
 }
 
 impl Keeper {
+    /// One in the model.
     pub fn open(rules: Rules, n: u8, own: u8) -> Keeper {
-        let bench = Bench::open_under(rules, n, own).expect("a volume has numbers in range");
-        let fresh = bench.decided();
+        let model = Model::open(rules, n, own).expect("a volume has numbers in range");
+        Keeper::with(n, own, Box::new(model))
+    }
+
+    /// One on a fresh machine of these numbers.
+    pub fn with(n: u8, own: u8, machine: Box<dyn Machine>) -> Keeper {
         Keeper {
             own,
             n,
-            bench,
-            fresh,
+            first_line: machine.text().to_string(),
+            fresh: machine.standing().0,
+            machine,
             list: vec![],
+            beat: None,
             gathering: None,
         }
     }
 
     /// Makes a call and lists it.
     pub fn call(&mut self, call: Call) -> Reply {
-        let before = self.bench.decisions().len();
-        let reply = self.bench.call(&call);
-        match reply {
-            Reply::Begun => self.gathering = self.bench.beat(),
-            Reply::Acted(_) => self.gathering = None,
-            Reply::Took(_) | Reply::Refused(_) => {}
+        let before = self.machine.text().len();
+        let reply = self.machine.call(&call);
+        match (&call, &reply) {
+            (Call::Begin(beat), Reply::Begun) => (self.beat, self.gathering) = (Some(*beat), Some(*beat)),
+            (_, Reply::Acted(_)) => self.gathering = None,
+            _ => {}
         }
+        let (standing, parted) = self.machine.standing();
         self.list.push(Entry {
-            beat: self.bench.beat(),
-            decided: self.bench.decisions()[before..].last().map(|(_, log)| log.clone()),
-            standing: self.bench.decided(),
-            parted: self.bench.parted(),
-            line: roll::line(&call, &reply, &self.bench),
+            beat: self.beat,
+            decided: self.machine.decided(),
+            standing,
+            parted,
+            line: self.machine.text()[before..].to_string(),
             call,
             reply: reply.clone(),
         });
@@ -65,11 +79,16 @@ impl Keeper {
 
     /// The log that stands.
     pub fn standing(&self) -> Log {
-        self.bench.decided()
+        self.machine.standing().0
     }
 
-    /// The text of a roll's first line.
-    pub fn first_line(&self) -> String {
-        roll::first_line(&self.bench)
+    /// What the bench holds after the calls so far.
+    pub fn page(&self) -> Page {
+        self.machine.page()
+    }
+
+    /// What the program of a roll prints of its list.
+    pub fn text(&self) -> &str {
+        self.machine.text()
     }
 }

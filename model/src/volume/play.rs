@@ -114,7 +114,7 @@ impl Stage {
         let mut bytes = self.adversary.told(place, beat);
         let proposed = self.proposals.iter().filter(|(at, to, _)| (*at, *to) == (beat, place));
         bytes.extend(proposed.map(|(_, _, bytes)| bytes.clone()));
-        bytes.extend(self.volume.post.due(place, beat));
+        bytes.extend(self.volume.post.due(place, beat, true));
         self.random.shuffle(&mut bytes);
         for bytes in bytes {
             self.hand(place, &bytes);

@@ -1,10 +1,21 @@
-//! The post between rule-keepers: who is owed which LOG since when, and who has it.
+//! The post between rule-keepers: who is owed which message since when, and who has it.
 use super::reading::log_window_is_open;
 use crate::history::message::Message;
 use std::collections::HashSet;
 
+/// How a message between rule-keepers comes to one of them.
+#[derive(Clone, Copy, PartialEq, Eq, Debug)]
+pub enum Course {
+    /// In the first gathering after it was sent that ends in an act, if its window is open then.
+    Due,
+    /// In the gathering of this beat.
+    At(u32),
+    Never,
+}
+
 struct Owed {
     since: u32,
+    course: Course,
     view: u32,
     bytes: Vec<u8>,
 }
@@ -12,37 +23,49 @@ struct Owed {
 /// A LOG that never gets through: to this bench, of this sender, of this view.
 pub type Withheld = (u8, u8, u32);
 
+/// The course of each message to the bench of this number.
+pub type Courses = Box<dyn Fn(u8, &Message) -> Course>;
+
 pub struct Post {
     owed: Vec<Vec<Owed>>,
     /// The LOGs that each bench has taken or made.
     with: Vec<HashSet<Vec<u8>>>,
     /// The numbers of the rule-keepers, by their places.
     numbers: Vec<u8>,
-    /// Empty wherever the delivery premise is kept.
-    withheld: HashSet<Withheld>,
+    courses: Courses,
 }
 
 impl Post {
-    pub fn new(numbers: Vec<u8>, withheld: HashSet<Withheld>) -> Post {
+    pub fn new(numbers: Vec<u8>, courses: Courses) -> Post {
         let (owed, with) = numbers.iter().map(|_| (vec![], HashSet::new())).unzip();
         Post {
             owed,
             with,
             numbers,
-            withheld,
+            courses,
         }
     }
 
-    /// A LOG made or passed on by the rule-keeper at this place is owed to every other that has it not.
-    pub fn send(&mut self, from: usize, beat: u32, log: &Message) {
-        let bytes = log.write();
+    /// All LOGs are due but these; none of these wherever the delivery premise is kept.
+    pub fn withholding(numbers: Vec<u8>, withheld: HashSet<Withheld>) -> Post {
+        let course = move |to: u8, log: &Message| match withheld.contains(&(to, log.sender, log.view)) {
+            true => Course::Never,
+            false => Course::Due,
+        };
+        Post::new(numbers, Box::new(course))
+    }
+
+    /// A message made or passed on by the rule-keeper at this place is owed to every other that has it not.
+    pub fn send(&mut self, from: usize, beat: u32, message: &Message) {
+        let bytes = message.write();
         for to in (0..self.owed.len()).filter(|&to| to != from) {
-            let lost = self.withheld.contains(&(self.numbers[to], log.sender, log.view));
+            let course = (self.courses)(self.numbers[to], message);
             let queued = self.owed[to].iter().any(|owed| owed.bytes == bytes);
-            if !lost && !queued && !self.with[to].contains(&bytes) {
+            if course != Course::Never && !queued && !self.with[to].contains(&bytes) {
                 self.owed[to].push(Owed {
                     since: beat,
-                    view: log.view,
+                    course,
+                    view: message.view,
                     bytes: bytes.clone(),
                 });
             }
@@ -55,9 +78,13 @@ impl Post {
         self.owed[to].retain(|owed| owed.bytes != bytes);
     }
 
-    /// What must be handed over before the act of this beat: sent in an earlier beat, its window not passed.
-    pub fn due(&self, to: usize, beat: u32) -> Vec<Vec<u8>> {
-        let due = |owed: &&Owed| owed.since < beat && log_window_is_open(owed.view, beat);
+    /// What must be handed over in the gathering of this beat, before the act if there is one.
+    pub fn due(&self, to: usize, beat: u32, acts: bool) -> Vec<Vec<u8>> {
+        let due = |owed: &&Owed| match owed.course {
+            Course::Due => acts && owed.since < beat && log_window_is_open(owed.view, beat),
+            Course::At(at) => at == beat,
+            Course::Never => false,
+        };
         self.owed[to].iter().filter(due).map(|owed| owed.bytes.clone()).collect()
     }
 

@@ -9,7 +9,7 @@ pub fn differing_line(keeper: &Keeper, text: fn(&[u8]) -> Vec<u8>) -> Option<Str
     let (roll, calls) = longest_roll(keeper);
     let seen = keeper.list[..calls]
         .iter()
-        .fold(keeper.first_line(), |seen, entry| seen + &entry.line);
+        .fold(keeper.first_line.clone(), |seen, entry| seen + &entry.line);
     let printed = text(&roll);
     if printed == seen.as_bytes() {
         return None;
