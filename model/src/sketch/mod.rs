@@ -3,5 +3,9 @@
 pub mod notation;
 pub mod machine;
 pub mod page;
+pub mod play;
+pub mod post;
+#[cfg(test)]
+mod samples;
 pub mod schedule;
 pub mod story;

@@ -121,12 +121,18 @@ fn forged(lists: &[Reading]) -> Vec<Breach> {
     found
 }
 
-/// The views up to the last of which a rule-keeper begins any beat; the beats past the last view's belong to none.
 fn outnumbered(n: u8, lists: &[Reading]) -> Vec<Breach> {
+    let breakers = usize::from(n) - lists.len();
+    let few = counted(lists).into_iter().filter(|(_, awake)| awake.len() <= breakers);
+    few.map(|(view, awake)| Breach::Majority { view, awake, breakers }).collect()
+}
+
+/// The rule-keepers awake at both beats that the majority premise looks at, for each view up to the last of which a rule-keeper
+/// begins any beat; the beats past the last view's belong to none.
+pub fn counted(lists: &[Reading]) -> Vec<(u32, Vec<u8>)> {
     let Some(last) = lists.iter().filter_map(|list| list.begun.last()).max() else {
         return vec![];
     };
-    let breakers = usize::from(n) - lists.len();
     let awake = |view: u32| {
         let before = |list: &&Reading| view == 0 || list.awake.contains(&(4 * view - 1));
         let both = lists
@@ -135,14 +141,7 @@ fn outnumbered(n: u8, lists: &[Reading]) -> Vec<Breach> {
             .filter(|list| list.awake.contains(&(4 * view + 1)));
         both.map(|list| list.own).collect::<Vec<u8>>()
     };
-    let views = (0..=(last / 4).min(1_000_000)).map(|view| Breach::Majority {
-        view,
-        awake: awake(view),
-        breakers,
-    });
-    views
-        .filter(|breach| matches!(breach, Breach::Majority { awake, breakers, .. } if awake.len() <= *breakers))
-        .collect()
+    (0..=(last / 4).min(1_000_000)).map(|view| (view, awake(view))).collect()
 }
 
 #[cfg(test)]

@@ -23,17 +23,30 @@ pub fn differing_line(keeper: &Keeper, text: fn(&[u8]) -> Vec<u8>) -> Option<Str
     Some(format!("bench {} of {}, line {first}", keeper.own, keeper.n))
 }
 
-/// The roll of the longest start of the list that is one, and how many calls that is.
-fn longest_roll(keeper: &Keeper) -> (Vec<u8>, usize) {
-    let bytes = |call: &Call| match call {
+/// Whether a roll can hold this list with one call more.
+pub fn has_room(keeper: &Keeper, call: &Call) -> bool {
+    let bytes: usize = keeper.list.iter().map(|entry| event_bytes(&entry.call)).sum();
+    keeper.list.len() < MOST_EVENTS && SIZES + bytes + event_bytes(call) <= MOST_ROLL
+}
+
+/// The bytes before a roll's marks.
+const SIZES: usize = 4;
+
+/// A call's mark and body.
+fn event_bytes(call: &Call) -> usize {
+    match call {
         Call::Begin(_) => 8,
         Call::Receive(bytes) => 4 + bytes.len(),
         Call::Act { .. } => 22,
-    };
-    let mut left = MOST_ROLL - 4;
+    }
+}
+
+/// The roll of the longest start of the list that is one, and how many calls that is.
+fn longest_roll(keeper: &Keeper) -> (Vec<u8>, usize) {
+    let mut left = MOST_ROLL - SIZES;
     let mut calls = vec![];
     for entry in keeper.list.iter().take(MOST_EVENTS) {
-        match left.checked_sub(bytes(&entry.call)) {
+        match left.checked_sub(event_bytes(&entry.call)) {
             Some(rest) => left = rest,
             None => break,
         }
