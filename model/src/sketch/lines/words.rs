@@ -1,0 +1,103 @@
+//! Words for numbers, logs, messages and rules.
+use crate::history::bench::Rules;
+use crate::history::message::{Block, Kind, Message};
+
+/// A log as sketches write it.
+pub fn log(log: &[Block]) -> String {
+    let blocks: Vec<String> = log.iter().map(block).collect();
+    format!("[{}]", blocks.join(" "))
+}
+
+/// A block's name, and its entries where they are not one.
+pub fn block(block: &Block) -> String {
+    match block.count {
+        1 => block.name.to_string(),
+        count => format!("{}*{count}", block.name),
+    }
+}
+
+/// A log within a sentence.
+pub fn log_or_empty(blocks: &[Block]) -> String {
+    match blocks {
+        [] => "the empty log".to_string(),
+        _ => log(blocks),
+    }
+}
+
+/// Numbers in a row.
+pub fn numbers<'a>(numbers: impl IntoIterator<Item = &'a u8>) -> String {
+    let words: Vec<String> = numbers.into_iter().map(u8::to_string).collect();
+    words.join(" ")
+}
+
+/// Numbers in a row, or nobody.
+pub fn numbers_or_nobody<'a>(these: impl IntoIterator<Item = &'a u8>) -> String {
+    let row = numbers(these);
+    if row.is_empty() {
+        return "nobody".to_string();
+    }
+    row
+}
+
+/// `1 bench`, `2 benches`.
+pub fn counted(count: usize, one: &str, more: &str) -> String {
+    format!("{count} {}", if count == 1 { one } else { more })
+}
+
+/// `beat 4`, `beats 4 to 6`.
+pub fn span(what: &str, first: u32, last: u32) -> String {
+    match first == last {
+        true => format!("{what} {first}"),
+        false => format!("{what}s {first} to {last}"),
+    }
+}
+
+/// A message as sketches write it.
+pub fn message(message: &Message) -> String {
+    let Message {
+        view, sender, priority, ..
+    } = message;
+    let blocks = log(&message.log);
+    match message.kind {
+        Kind::Log => format!("LOG v{view} of {sender} {blocks}"),
+        Kind::Proposal => format!("PROPOSAL v{view} of {sender} {blocks}, priority {priority}"),
+    }
+}
+
+/// Snapshot one or two.
+pub fn snapshot(number: u8) -> &'static str {
+    match number {
+        1 => "snapshot one",
+        _ => "snapshot two",
+    }
+}
+
+/// A mistake in document 01's words, or the rules.
+pub fn rules(rules: Rules) -> &'static str {
+    match rules {
+        Rules::Paper => "the rules",
+        Rules::EquivocatorsUnheard => "equivocators counted out of S as well as V",
+        Rules::MajorityOfAll => "a majority of n in place of S",
+        Rules::HalfIsEnough => "at least half for more than half",
+        Rules::SnapshotsSwapped => "the snapshots of grades 1 and 2 swapped",
+        Rules::SnapshotJudges => "support judged by a snapshot, later equivocation forgotten",
+        Rules::VoteWithoutLock => "voting for the top proposal without the lock",
+    }
+}
+
+/// What a refusal's number means.
+pub fn refusal(number: u8) -> &'static str {
+    match number {
+        1 => "under 16 bytes",
+        2 => "its length does not fit its blocks",
+        3 => "kind, byte 3 or a LOG's priority wrong",
+        4 => "no such sender",
+        5 => "no such view",
+        6 => "a block named zero",
+        10 => "no such beat",
+        20 => "a beat not above the last begun",
+        21 => "its view is not open to it at this beat",
+        22 => "no gathering under way",
+        _ => "out of range",
+    }
+}
