@@ -1,0 +1,75 @@
+//! What a rule-keeper learns in its gathering of a beat: equivocators, proposals set aside, what it refuses.
+use super::mark::{Cell, Here, Mark, Sign};
+use super::words::{message, of_view, set};
+use crate::history::bench::Word;
+use crate::history::message::Kind;
+use crate::sketch::story::{BeatRun, Take};
+use std::collections::{BTreeMap, BTreeSet};
+
+/// The equivocators that a row has shown so far, by views.
+pub type Shown = BTreeMap<u32, BTreeSet<u8>>;
+
+/// The marks of a gathering.
+pub fn marks(here: Here, beat: &BeatRun, shown: &mut Shown) -> Cell {
+    let mut cell = Cell::new();
+    for (view, senders) in equivocators(beat, shown) {
+        let senders = set(&senders);
+        let whole = format!("it now has two different LOGs of view {view} of each of {senders}: equivocators");
+        let text = format!("E {senders}{}", of_view(view, here.beat));
+        cell.push(here.mark(Sign::Equivocator, &text, &whole));
+    }
+    cell.extend(aside(here, beat));
+    cell.extend(refused(here, beat));
+    cell
+}
+
+fn is_second(take: &Take, kind: Kind) -> bool {
+    take.message.kind == kind && take.answer == Ok(Word::Second)
+}
+
+/// The equivocators that the row has not shown yet: a second LOG is taken; or a bench's own vote differs from a LOG forged
+/// under its number, which shows from the next gathering on.
+fn equivocators(beat: &BeatRun, shown: &mut Shown) -> Shown {
+    let second = beat.takes.iter().filter(|take| is_second(take, Kind::Log));
+    let mut found: Vec<(u32, u8)> = second.map(|take| (take.message.view, take.message.sender)).collect();
+    for agreement in &beat.agreements {
+        found.extend(agreement.equivocators.iter().map(|&sender| (agreement.view, sender)));
+    }
+    let mut new = Shown::new();
+    for (view, sender) in found {
+        if shown.entry(view).or_default().insert(sender) {
+            new.entry(view).or_default().insert(sender);
+        }
+    }
+    new
+}
+
+fn aside(here: Here, beat: &BeatRun) -> Option<Mark> {
+    let second = beat.takes.iter().filter(|take| is_second(take, Kind::Proposal));
+    let senders: BTreeSet<u8> = second.map(|take| take.message.sender).collect();
+    let names = set(&senders);
+    let whole = format!("it now has two different PROPOSALs of each of {names}: set aside");
+    (!senders.is_empty()).then(|| here.mark(Sign::Aside, &format!("aside {names}"), &whole))
+}
+
+/// One mark for each number of a refusal.
+fn refused(here: Here, beat: &BeatRun) -> Cell {
+    let mut by_number: BTreeMap<u8, Vec<String>> = BTreeMap::new();
+    for take in &beat.takes {
+        if let Err(number) = take.answer {
+            by_number.entry(number).or_default().push(message(&take.message));
+        }
+    }
+    let mark = |(number, messages): (&u8, &Vec<String>)| {
+        let text = match messages.len() {
+            1 => format!("refused {number}"),
+            many => format!("refused {number} ({many}x)"),
+        };
+        here.mark(
+            Sign::Refused,
+            &text,
+            &format!("refuses by {number} the {}", messages.join("; the ")),
+        )
+    };
+    by_number.iter().map(mark).collect()
+}
