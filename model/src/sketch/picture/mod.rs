@@ -16,6 +16,8 @@ mod prose;
 mod rows;
 mod signs;
 mod svg;
+#[cfg(test)]
+mod tests;
 mod told;
 mod words;
 
