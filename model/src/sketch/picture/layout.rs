@@ -3,7 +3,7 @@ use super::mark::{height, Cell, Mark, CHARACTER, ROOM};
 use crate::sketch::schedule::Schedule;
 
 /// After so many columns the rows' names stand again, where a view begins, in a narrow column of their own.
-const UNLABELLED: usize = 12;
+const UNLABELLED: usize = 16;
 const LABEL_AGAIN: i32 = 72;
 /// Around the picture.
 pub const MARGIN: i32 = 16;

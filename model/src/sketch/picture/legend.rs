@@ -16,7 +16,8 @@ const SAMPLE: i32 = 150;
 const BAR: i32 = 120;
 const GENERAL: &str = "A log is written by the names of its blocks, the oldest first: [5 6*3] is block 5 with one entry and \
     block 6 with three, [] is the empty log. Where a text is cut (…), point at it to read it whole. GA v is the agreement of \
-    view v. Each cell has, from the top down, what a bench hears in a beat and then what its act does.";
+    view v. Each cell has, from the top down, what a bench hears in a beat and then what its act does. What a rule-keeper makes or \
+    passes on comes to each other one in the next beat at which that one is awake; it is drawn only where it is lost or late.";
 
 /// Draws the legend from `top` down, in as many columns as there is width for, and says where it ends.
 pub fn draw(svg: &mut Svg, signs: &BTreeSet<Sign>, width: i32, top: i32) -> i32 {
