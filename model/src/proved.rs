@@ -1,12 +1,30 @@
-//! The proved roll function, through the static library. Nothing checks this declaration against the Rattle source, so it is
-//! the only one there is.
+//! The proved functions of a roll, through the static library. Nothing checks these declarations against the Rattle source, so
+//! they are the only ones there are.
 
 extern "C" {
     fn cervakho_roll_text(roll: *const u8, roll_len: usize, text: *mut u8, text_len: usize) -> usize;
+    fn cervakho_roll_made(roll: *const u8, roll_len: usize, event: usize, out: *mut u8, out_len: usize) -> usize;
+    fn cervakho_roll_page(
+        roll: *const u8,
+        roll_len: usize,
+        calls: usize,
+        names: *mut u64,
+        names_len: usize,
+        counts: *mut u16,
+        counts_len: usize,
+        page: *mut u8,
+        page_len: usize,
+    ) -> usize;
 }
 
 /// The bytes that the function asks of the text buffer: as many as the longest roll has. No text is as long.
 pub const LEAST_BUFFER: usize = 65_536;
+/// The bytes that an act asks of its outgoing buffer: as many as the longest message has.
+pub const LEAST_OUT: usize = 656;
+/// The places that a bench asks of each lent list.
+pub const LEAST_LENT: usize = 6_208;
+/// The bytes of a page.
+pub const PAGE_LENGTH: usize = 337;
 
 /// The text of a roll, into a lent buffer; how many bytes it has. A buffer under
 /// `LEAST_BUFFER` bytes gives 0 and stays as it was.
@@ -21,4 +39,48 @@ pub fn roll_text(roll: &[u8]) -> Vec<u8> {
     let length = write_roll_text(roll, &mut text);
     text.truncate(length);
     text
+}
+
+/// The bytes of the message that event number `event` of a roll, an act, made; none, if it made none.
+pub fn roll_made(roll: &[u8], event: usize) -> Option<Vec<u8>> {
+    let mut out = vec![0; LEAST_OUT];
+    // SAFETY: both slices are valid for their lengths; the function is proved to stay inside them for every roll and buffer.
+    let length = unsafe { cervakho_roll_made(roll.as_ptr(), roll.len(), event, out.as_mut_ptr(), out.len()) };
+    out.truncate(length);
+    (length > 0).then_some(out)
+}
+
+/// What a bench holds: its lent lists, and its record as a page.
+pub struct Held {
+    pub names: Vec<u64>,
+    pub counts: Vec<u16>,
+    /// Two agreements of 166 bytes each, the even view's first: view (4 bytes), whether snapshots one and two were taken, 32 log
+    /// lengths, and V, E and both snapshots by 32 flags each. Then 5 bytes of what an act now would read: whether there is a
+    /// log, the sender at whose place it stands, its blocks, its supporters, the senders.
+    pub page: Vec<u8>,
+}
+
+/// What the bench of a roll holds after the first calls; none, if the roll is none or has fewer calls.
+pub fn roll_page(roll: &[u8], calls: usize) -> Option<Held> {
+    let mut held = Held {
+        names: vec![0; LEAST_LENT],
+        counts: vec![0; LEAST_LENT],
+        page: vec![0; PAGE_LENGTH],
+    };
+    let Held { names, counts, page } = &mut held;
+    // SAFETY: all slices are valid for their lengths; the function is proved to stay inside them whatever they hold.
+    let length = unsafe {
+        cervakho_roll_page(
+            roll.as_ptr(),
+            roll.len(),
+            calls,
+            names.as_mut_ptr(),
+            names.len(),
+            counts.as_mut_ptr(),
+            counts.len(),
+            page.as_mut_ptr(),
+            page.len(),
+        )
+    };
+    (length == PAGE_LENGTH).then_some(held)
 }

@@ -167,11 +167,17 @@ impl Bench {
         (view <= LAST_VIEW).then(|| self.agreement(view, place).voters())
     }
 
-    /// What an act at the beat last begun reads of the agreement before, whether or not it may act.
+    /// What an act at the beat last begun reads, whether or not it may act: of the agreement before, or the empty log as the
+    /// candidate and the lock of view 0.
     pub fn reading(&self) -> Count {
         let beat = self.beat().unwrap_or(0);
-        let (Some(view), grade @ 0..=2) = ((beat / 4).checked_sub(1), (beat % 4) as u8) else {
-            return Count::default();
+        let (before, grade) = ((beat / 4).checked_sub(1), (beat % 4) as u8);
+        let view = match before {
+            Some(view) if grade < 3 => view,
+            _ => {
+                let log = (before.is_none() && grade < 2).then(Vec::new);
+                return Count { log, ..Count::default() };
+            }
         };
         let count = |counted: &Voters| self.heard(view).count(self.rules, self.n, counted);
         match self.counted(view, grade) {

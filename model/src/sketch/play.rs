@@ -1,5 +1,6 @@
 //! A schedule played out: beat by beat the benches take their turns by number.
 use super::machine::model::Model;
+use super::machine::proved::Proved;
 use super::machine::Machine;
 use super::page::Page;
 use super::post::courses;
@@ -164,8 +165,13 @@ impl Stage<'_> {
     }
 }
 
+/// The paper's rules run in the proved code, mistakes in the model.
 fn machine(rules: Rules, n: u8, own: u8) -> Box<dyn Machine> {
-    Box::new(Model::open(rules, n, own).expect("a sketch has numbers in range"))
+    let in_range = "a sketch has numbers in range";
+    match rules {
+        Rules::Paper => Box::new(Proved::open(n, own).expect(in_range)),
+        mistake => Box::new(Model::open(mistake, n, own).expect(in_range)),
+    }
 }
 
 fn bench_run((keeper, beats): (&Keeper, Vec<BeatRun>)) -> BenchRun {

@@ -1,6 +1,6 @@
 //! What a run came to: the decided logs, the verdict, and two runs side by side.
 use super::sheet::Sheet;
-use super::words::{log_or_empty, message, rules};
+use super::words::{log_or_empty, message, numbers, rules};
 use crate::history::bench::Rules;
 use crate::history::message::Log;
 use crate::sketch::story::{Act, BenchRun, GradeRead, Run, Story};
@@ -45,34 +45,48 @@ fn standing(bench: &BenchRun) -> String {
 
 /// Whether the promise is kept, and what is to be said of the premises.
 pub fn verdict(run: &Run) -> Vec<String> {
-    let mut said = vec![];
-    match &run.broken[..] {
-        [] => said.push("No two decided logs conflict, and each bench's standing log is the longest it decided.".to_string()),
-        broken => said.extend(broken.iter().map(broken_promise)),
+    let mut said = broken_promise(&run.broken);
+    if said.is_empty() {
+        said.push(KEPT.to_string());
     }
-    let by_rules = run.rules == Rules::Paper;
-    if !run.breaches.is_empty() {
-        said.push("A premise fails, so demand 3 promises nothing here.".to_string());
-    } else if by_rules {
-        said.push("The premises hold, so demand 3 promises this.".to_string());
-    } else if !run.broken.is_empty() {
-        said.push("The premises hold: the mistake alone did this.".to_string());
+    let decides = |bench: &BenchRun| bench.beats.iter().flat_map(|beat| &beat.act).any(|act| act.decided.is_some());
+    if !run.benches.iter().any(decides) {
+        said.push("Nothing was decided.".to_string());
     }
+    let premises = match (run.breaches.is_empty(), run.rules, run.broken.is_empty()) {
+        (false, ..) => "A premise fails, so demand 3 promises nothing here.",
+        (true, Rules::Paper, true) => "The premises hold, so demand 3 promises this.",
+        (true, Rules::Paper, false) => "The premises hold, and demand 3 promises that this cannot be.",
+        (true, _, true) => "The premises hold; here the mistake did no harm.",
+        (true, _, false) => "The premises hold: the mistake alone did this.",
+    };
+    said.push(premises.to_string());
     said
 }
 
-fn broken_promise(broken: &Broken) -> String {
-    match broken {
-        Broken::Conflict { one, other, logs } => {
-            let [first, second] = logs.clone().map(|log| log_or_empty(&log));
-            format!(
-                "TWO HISTORIES: bench {} decided {first} at beat {}, bench {} decided {second} at beat {}",
-                one.bench, one.beat, other.bench, other.beat
-            )
+const KEPT: &str = "No two decided logs conflict, and each bench's standing log is the longest it decided.";
+
+fn broken_promise(broken: &[Broken]) -> Vec<String> {
+    let (mut said, mut short, mut parted) = (vec![], vec![], vec![]);
+    for broken in broken {
+        match broken {
+            Broken::Conflict { one, other, logs } => {
+                let [first, second] = logs.clone().map(|log| log_or_empty(&log));
+                let first = format!("bench {} decided {first} at beat {}", one.bench, one.beat);
+                let second = format!("bench {} decided {second} at beat {}", other.bench, other.beat);
+                said.push(format!("TWO HISTORIES: {first}, {second}"));
+            }
+            Broken::Standing { bench, .. } => short.push(*bench),
+            Broken::Parted { bench, .. } => parted.push(*bench),
         }
-        Broken::Standing { bench, .. } => format!("Bench {bench}: what stands is not the longest log that it decided."),
-        Broken::Parted { bench, .. } => format!("Bench {bench}: the mark parted is set."),
     }
+    if !short.is_empty() {
+        said.push(format!("What stands is not the longest log decided at: {}.", numbers(&short)));
+    }
+    if !parted.is_empty() {
+        said.push(format!("The mark parted is set at: {}.", numbers(&parted)));
+    }
+    said
 }
 
 /// The outcomes of two runs, and where they first differ.

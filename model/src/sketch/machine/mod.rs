@@ -1,5 +1,6 @@
 //! One bench as the player of a sketch sees it, whatever runs inside.
 pub mod model;
+pub mod proved;
 
 use super::page::Page;
 use crate::history::bench::{Call, Reply};
