@@ -11,3 +11,4 @@ pub mod post;
 mod samples;
 pub mod schedule;
 pub mod story;
+mod words;

@@ -1,20 +1,6 @@
-//! Words for numbers, logs, messages and rules.
-use crate::history::bench::Rules;
+//! Words for numbers, logs and messages.
 use crate::history::message::{Block, Kind, Message};
-
-/// A log as sketches write it.
-pub fn log(log: &[Block]) -> String {
-    let blocks: Vec<String> = log.iter().map(block).collect();
-    format!("[{}]", blocks.join(" "))
-}
-
-/// A block's name, and its entries where they are not one.
-pub fn block(block: &Block) -> String {
-    match block.count {
-        1 => block.name.to_string(),
-        count => format!("{}*{count}", block.name),
-    }
-}
+pub use crate::sketch::words::{block, log, rules};
 
 /// A log within a sentence.
 pub fn log_or_empty(blocks: &[Block]) -> String {
@@ -69,19 +55,6 @@ pub fn snapshot(number: u8) -> &'static str {
     match number {
         1 => "snapshot one",
         _ => "snapshot two",
-    }
-}
-
-/// A mistake in document 01's words, or the rules.
-pub fn rules(rules: Rules) -> &'static str {
-    match rules {
-        Rules::Paper => "the rules",
-        Rules::EquivocatorsUnheard => "equivocators counted out of S as well as V",
-        Rules::MajorityOfAll => "a majority of n in place of S",
-        Rules::HalfIsEnough => "at least half for more than half",
-        Rules::SnapshotsSwapped => "the snapshots of grades 1 and 2 swapped",
-        Rules::SnapshotJudges => "support judged by a snapshot, later equivocation forgotten",
-        Rules::VoteWithoutLock => "voting for the top proposal without the lock",
     }
 }
 

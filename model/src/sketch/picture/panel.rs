@@ -16,6 +16,7 @@ use super::told::{told, Told};
 use crate::history::bench::Rules;
 use crate::sketch::schedule::Schedule;
 use crate::sketch::story::{Run, Story};
+use crate::sketch::words;
 use crate::volume::schedule::Presence;
 use std::collections::BTreeSet;
 
@@ -141,14 +142,8 @@ impl<'a> Panel<'a> {
 }
 
 fn heading(rules: Rules) -> String {
-    let mistake = match rules {
-        Rules::Paper => return "By the rules (the proved code)".to_string(),
-        Rules::EquivocatorsUnheard => "equivocators not counted among the senders",
-        Rules::MajorityOfAll => "a majority of all benches for a majority of those heard",
-        Rules::HalfIsEnough => "at least half for more than half",
-        Rules::SnapshotsSwapped => "the snapshots of grades 1 and 2 swapped",
-        Rules::SnapshotJudges => "support judged by the snapshot, later equivocation forgotten",
-        Rules::VoteWithoutLock => "a vote for the top proposal without the lock",
-    };
-    format!("With the mistake: {mistake} (the model)")
+    match rules {
+        Rules::Paper => "By the rules (the proved code)".to_string(),
+        mistake => format!("With the mistake: {} (the model)", words::rules(mistake)),
+    }
 }

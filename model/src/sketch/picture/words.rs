@@ -1,5 +1,7 @@
 //! Logs, sets and messages in few characters, and text cut or broken to the room there is.
 use crate::history::message::{Block, Kind, Message};
+use crate::sketch::words::block;
+pub use crate::sketch::words::log;
 
 /// How many characters wide text is; what is not plain ASCII is reckoned twice as wide, but for the ellipsis.
 pub fn width(text: &str) -> usize {
@@ -53,19 +55,6 @@ fn pieces(word: &str, room: usize) -> Vec<String> {
         }
     }
     pieces
-}
-
-/// A log by the names of its blocks, the oldest first; an entry count follows where it is not 1.
-pub fn log(blocks: &[Block]) -> String {
-    let blocks: Vec<String> = blocks.iter().map(block).collect();
-    format!("[{}]", blocks.join(" "))
-}
-
-fn block(block: &Block) -> String {
-    match block.count {
-        1 => block.name.to_string(),
-        count => format!("{}*{count}", block.name),
-    }
 }
 
 /// A log in the room there is. A long one keeps its newest blocks, for logs differ at their ends, and its oldest if it can.

@@ -58,10 +58,10 @@ fn each_mistake_has_a_heading_that_says_it() {
         let word = match rules {
             Rules::Paper => unreachable!("no mistake"),
             Rules::EquivocatorsUnheard => "equivocators",
-            Rules::MajorityOfAll => "all benches",
+            Rules::MajorityOfAll => "a majority of n",
             Rules::HalfIsEnough => "at least half",
             Rules::SnapshotsSwapped => "swapped",
-            Rules::SnapshotJudges => "judged by the snapshot",
+            Rules::SnapshotJudges => "judged by a snapshot",
             Rules::VoteWithoutLock => "without the lock",
         };
         assert!(heading.contains(word), "{heading}");
