@@ -69,10 +69,17 @@ fn unnamed(document: &str, block: &Block) -> Vec<Finding> {
 /// Where the sentences of a block stand; a row of a table is one.
 pub fn sentences(block: &Block) -> Vec<Range<usize>> {
     match block.kind {
+        Kind::Paragraph if is_picture(&block.text) => vec![],
         Kind::Paragraph | Kind::Item => split(block),
         Kind::Row => std::iter::once(0..block.text.len()).collect(),
         _ => vec![],
     }
+}
+
+/// A picture alone, `![words](file)`: its words are for who cannot see it, and the sentence before it states the rule.
+fn is_picture(text: &str) -> bool {
+    let parts = text.strip_prefix("![").and_then(|rest| rest.split_once("]("));
+    parts.is_some_and(|(_, file)| file.strip_suffix(')').is_some_and(|file| !file.contains([')', ' ', '\n'])))
 }
 
 fn split(block: &Block) -> Vec<Range<usize>> {

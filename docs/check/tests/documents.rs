@@ -52,7 +52,14 @@ fn trace_names_the_edits() {
 
 #[test]
 fn links_and_paths_lead_somewhere() {
-    for document in [README, "docs/DECISIONS.md", "docs/BENCHMARK.md", READING, TRACE] {
+    for document in [
+        README,
+        "docs/DECISIONS.md",
+        "docs/BENCHMARK.md",
+        "docs/SKETCHES.md",
+        READING,
+        TRACE,
+    ] {
         hold(document, |text, tree| paths::check(document, text, tree));
     }
 }

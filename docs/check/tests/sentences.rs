@@ -126,3 +126,11 @@ fn items_and_rows_are_told_apart() {
     assert_eq!(split("| A | B |\n|---|---|\n| One. Two | Three |"), ["| One. Two | Three |"]);
     assert_eq!(split("It is at beat\n4. That is all"), ["It is at beat\n4.", "That is all"]);
 }
+
+#[test]
+fn a_picture_alone_is_no_sentence() {
+    let shown = |picture: &str| said("### Below", &format!("{picture}\n\n### Below"));
+    assert_eq!(shown("![Two rows. Three\ncolumns](a/picture.svg)"), "");
+    assert!(shown("![Two rows](picture.svg) It says all.").contains(":11: this sentence names no definition"));
+    assert!(shown("![Two rows](picture.svg) and (more)").contains(":11: this sentence names no definition"));
+}
