@@ -64,9 +64,12 @@ impl fmt::Display for Breach {
                 )
             }
             Breach::Majority { view, awake, breakers } => {
+                let numbers: Vec<String> = awake.iter().map(u8::to_string).collect();
+                let numbers = numbers.join(",");
+                let who = if *breakers == 1 { "rule-breaker" } else { "rule-breakers" };
                 write!(
                     out,
-                    "majority: view {view} has benches {awake:?} awake against {breakers} rule-breakers"
+                    "majority: in view {view} the rule-keepers that count are {{{numbers}}}, too few against {breakers} {who}"
                 )
             }
         }
