@@ -1,5 +1,6 @@
 //! A schedule played out: what the lines tell and the picture shows.
-use super::schedule::Schedule;
+use super::post;
+use super::schedule::{Fate, Schedule};
 use crate::history::bench::{Rules, Word};
 use crate::history::message::{Log, Message};
 use crate::volume::premises::Breach;
@@ -11,6 +12,17 @@ pub struct Story {
     pub schedule: Schedule,
     /// By the rules, in the proved code; and then, if the sketch names a mistake, with it, in the model.
     pub runs: Vec<Run>,
+}
+
+impl Story {
+    /// What the sketch says of messages that nobody sent, by the rules: such lines did nothing.
+    pub fn idle(&self) -> Vec<&Fate> {
+        let by_rules = self.runs.first();
+        let fates = self.schedule.fates.iter();
+        fates
+            .filter(|fate| by_rules.is_some_and(|run| !post::is_met(fate, run)))
+            .collect()
+    }
 }
 
 /// All rule-keepers under one set of rules.

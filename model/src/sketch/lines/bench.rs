@@ -74,7 +74,7 @@ fn taken(take: &Take) -> String {
     let (sender, view) = (sent.sender, sent.view);
     let answer = match (take.answer, sent.kind) {
         (Ok(Word::First), _) => "first".to_string(),
-        (Ok(Word::Second), Kind::Log) => format!("second, so {sender} is of two logs in view {view}"),
+        (Ok(Word::Second), Kind::Log) => format!("second: {sender} has told two stories in view {view}"),
         (Ok(Word::Second), Kind::Proposal) => format!("second, so {sender}'s are set aside in view {view}"),
         (Ok(Word::Known), _) => "known".to_string(),
         (Err(number), _) => format!("refused by {number} ({})", refusal(number)),
@@ -105,7 +105,7 @@ fn senders(agreement: &Agreement) -> String {
         said += &format!("; {}: {}", log(blocks), numbers(&these));
     }
     if !agreement.equivocators.is_empty() {
-        said += &format!("; of two logs: {}", numbers(&agreement.equivocators));
+        said += &format!("; of two logs (E): {}", numbers(&agreement.equivocators));
     }
     said
 }

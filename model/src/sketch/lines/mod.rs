@@ -30,6 +30,7 @@ pub fn tell(story: &Story) -> String {
         premises::tell(&mut sheet, &story.schedule, run);
         sheet.gap();
         outcome::tell(&mut sheet, run);
+        tell_idle(&mut sheet, story, run);
     }
     if story.runs.len() == 2 {
         sheet.gap();
@@ -46,8 +47,20 @@ pub fn verdict(story: &Story) -> String {
         for saying in outcome::verdict(run) {
             sheet.say(2, &saying);
         }
+        tell_idle(&mut sheet, story, run);
     }
     sheet.text
+}
+
+/// The sketch's lines that did nothing in the run by the rules.
+fn tell_idle(sheet: &mut Sheet, story: &Story, run: &Run) {
+    if run.rules != Rules::Paper {
+        return;
+    }
+    for fate in story.idle() {
+        let line = words::fate(fate);
+        sheet.say(2, &format!("This line of the sketch met no message and did nothing: {line}"));
+    }
 }
 
 fn heading(run: &Run) -> String {

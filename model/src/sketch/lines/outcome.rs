@@ -2,9 +2,10 @@
 use super::sheet::Sheet;
 use super::words::{log_or_empty, message, numbers, rules};
 use crate::history::bench::Rules;
-use crate::history::message::Log;
+use crate::history::message::{Log, LAST_VIEW};
 use crate::sketch::story::{Act, BenchRun, GradeRead, Run, Story};
 use crate::volume::promise::Broken;
+use std::collections::BTreeMap;
 
 /// The decided logs of each bench, with their beats, and the verdict.
 pub fn tell(sheet: &mut Sheet, run: &Run) {
@@ -53,8 +54,11 @@ pub fn verdict(run: &Run) -> Vec<String> {
     if !run.benches.iter().any(decides) {
         said.push("Nothing was decided.".to_string());
     }
+    if let Some(view) = silent_from(run) {
+        said.push(format!("Nobody votes from view {view} on."));
+    }
     let premises = match (run.breaches.is_empty(), run.rules, run.broken.is_empty()) {
-        (false, ..) => "A premise fails, so demand 3 promises nothing here.",
+        (false, ..) => "A premise fails, so demand 3 does not promise that decided logs agree here.",
         (true, Rules::Paper, true) => "The premises hold, so demand 3 promises this.",
         (true, Rules::Paper, false) => "The premises hold, and demand 3 promises that this cannot be.",
         (true, _, true) => "The premises hold; here the mistake did no harm.",
@@ -62,6 +66,18 @@ pub fn verdict(run: &Run) -> Vec<String> {
     };
     said.push(premises.to_string());
     said
+}
+
+/// The view from which on nobody votes, though there are rule-keepers awake to vote.
+fn silent_from(run: &Run) -> Option<u32> {
+    let beats = run.benches.iter().flat_map(|bench| &bench.beats);
+    let voting = beats.filter(|beat| beat.beat % 4 == 1 && beat.beat / 4 <= LAST_VIEW);
+    let mut votes: BTreeMap<u32, bool> = BTreeMap::new();
+    for (beat, act) in voting.filter_map(|beat| Some((beat.beat, beat.act.as_ref()?))) {
+        *votes.entry(beat / 4).or_default() |= act.made.is_some();
+    }
+    let silent = votes.iter().rev().take_while(|(_, voted)| !**voted);
+    silent.last().map(|(view, _)| *view)
 }
 
 const KEPT: &str = "No two decided logs conflict, and each bench's standing log is the longest it decided.";
@@ -74,7 +90,7 @@ fn broken_promise(broken: &[Broken]) -> Vec<String> {
                 let [first, second] = logs.clone().map(|log| log_or_empty(&log));
                 let first = format!("bench {} decided {first} at beat {}", one.bench, one.beat);
                 let second = format!("bench {} decided {second} at beat {}", other.bench, other.beat);
-                said.push(format!("TWO HISTORIES: {first}, {second}"));
+                said.push(format!("CONFLICT, two histories: {first}, {second}"));
             }
             Broken::Standing { bench, .. } => short.push(*bench),
             Broken::Parted { bench, .. } => parted.push(*bench),

@@ -1,5 +1,6 @@
 //! Words for numbers, logs and messages.
 use crate::history::message::{Block, Kind, Message};
+use crate::sketch::schedule::Fate;
 pub use crate::sketch::words::{block, log, rules};
 
 /// A log within a sentence.
@@ -48,6 +49,22 @@ pub fn message(message: &Message) -> String {
         Kind::Log => format!("LOG v{view} of {sender} {blocks}"),
         Kind::Proposal => format!("PROPOSAL v{view} of {sender} {blocks}, priority {priority}"),
     }
+}
+
+/// A line about what is lost or late, as sketches write it.
+pub fn fate(fate: &Fate) -> String {
+    let Fate { view, sender, .. } = fate;
+    let kind = match fate.kind {
+        Kind::Log => "LOG",
+        Kind::Proposal => "PROPOSAL",
+    };
+    let blocks = fate.log.as_ref().map_or(String::new(), |blocks| format!(" {}", log(blocks)));
+    let to = numbers(&fate.to);
+    let reaches = match fate.at {
+        Some(beat) => format!("reaches {to} at {beat}"),
+        None => format!("never reaches {to}"),
+    };
+    format!("{kind} v{view} of {sender}{blocks} {reaches}")
 }
 
 /// Snapshot one or two.
