@@ -8,8 +8,10 @@ mod draft;
 mod fates;
 mod fault;
 mod lists;
+mod meets;
 mod needs;
 mod parts;
+mod remarks;
 mod statements;
 mod turns;
 mod words;
@@ -28,11 +30,14 @@ use cursor::Cursor;
 use draft::Draft;
 
 /// The schedule that a sketch says, or the first fault in the text. Where a line cannot be read, those before it are still
-/// checked: lines to come could only put more benches to sleep.
+/// checked: lines to come could only put more benches to sleep. What they could mend is checked when all are read.
 pub fn read(text: &str) -> Result<Schedule, Fault> {
     let text = text.strip_prefix('\u{feff}').unwrap_or(text);
     let mut draft = Draft::default();
-    let broken = read_lines(text, &mut draft).err();
+    let broken = match read_lines(text, &mut draft) {
+        Err(fault) => vec![fault],
+        Ok(()) => draft.unforged(),
+    };
     let faults = broken.into_iter().chain(draft.unmet());
     match faults.min_by_key(|fault| (fault.line, fault.column)) {
         Some(fault) => Err(fault),

@@ -17,7 +17,8 @@ pub fn courses(fates: Vec<Fate>) -> Courses {
     })
 }
 
-fn is_about(fate: &Fate, to: u8, message: &Message) -> bool {
+/// Whether the fate speaks of this message on its way to this bench.
+pub fn is_about(fate: &Fate, to: u8, message: &Message) -> bool {
     let same = (fate.kind, fate.view, fate.sender) == (message.kind, message.view, message.sender);
     same && fate.to.contains(&to) && fate.log.as_ref().is_none_or(|log| *log == message.log)
 }

@@ -1,5 +1,6 @@
 //! Going through the words of a line.
 use super::fault::{quoted, Fault};
+use super::remarks::remark;
 use super::words::{uncommented, words, Word};
 use std::ops::RangeInclusive;
 
@@ -104,7 +105,10 @@ impl Cursor {
     pub fn stuck(&self) -> Fault {
         let expected = joined(&self.sought);
         match self.peek() {
-            Some(word) => Fault::at(word, expected),
+            Some(word) => Fault {
+                found: quoted(&word.text) + &remark(&word.text, &expected),
+                ..Fault::at(word, expected)
+            },
             None => Fault {
                 line: self.line,
                 column: self.text.trim_end().chars().count() + 1,
@@ -122,7 +126,7 @@ pub fn digits(text: &str) -> Option<u64> {
 }
 
 /// `a`, `a or b`, `a, b or c`.
-fn joined(all: &[String]) -> String {
+pub fn joined(all: &[String]) -> String {
     match all {
         [before @ .., last] if !before.is_empty() => format!("{} or {last}", before.join(", ")),
         _ => all.concat(),

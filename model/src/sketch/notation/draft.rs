@@ -1,7 +1,8 @@
 //! What a sketch says so far.
-use super::cursor::Cursor;
+use super::cursor::{joined, Cursor};
 use super::fault::{quoted, Fault};
 use super::lists::{Benches, Item, Scope};
+use super::meets::{Own, Viewed};
 use super::needs::{Deed, Need};
 use super::words::Word;
 use crate::history::bench::Rules;
@@ -26,6 +27,10 @@ pub struct Draft {
     pub fates: Vec<Fate>,
     /// What must hold when all lines are read.
     needs: Vec<Need>,
+    /// The views of which the sketch must have beats.
+    pub views: Vec<Viewed>,
+    /// The lines that only a forged message can meet.
+    pub own: Vec<Own>,
     /// Where each statement stands that is said once.
     said: BTreeMap<String, usize>,
     /// The first line that names a bench.
@@ -69,6 +74,22 @@ impl Draft {
         self.keepers.clone().unwrap_or_else(|| (0..self.n).collect())
     }
 
+    /// The rule-keepers where one of them must stand: `a rule-keeper, 0 to 2 or 4`.
+    pub fn rule_keeper(&self) -> String {
+        let keepers = self.keepers();
+        let run = |run: &[u8]| match run {
+            [first, .., last] => format!("{first} to {last}"),
+            _ => run.iter().map(u8::to_string).collect(),
+        };
+        let runs: Vec<String> = keepers.chunk_by(|one, next| one + 1 == *next).map(run).collect();
+        format!("a rule-keeper, {}", joined(&runs))
+    }
+
+    /// The benches that a message can be handed to.
+    pub fn receivers(&self) -> Scope {
+        Scope::receivers(self.n, &self.keepers(), self.rule_keeper())
+    }
+
     fn keeps_rules(&self, bench: u8) -> bool {
         self.keepers().contains(&bench)
     }
@@ -80,7 +101,7 @@ impl Draft {
             true => Ok(bench),
             false => Err(Fault::at(
                 &item.word,
-                format!("a rule-keeper (bench {bench} breaks the rules)"),
+                format!("{} (bench {bench} breaks the rules)", self.rule_keeper()),
             )),
         }
     }
@@ -131,7 +152,14 @@ impl Draft {
     /// The needs that are not met.
     pub fn unmet(&self) -> impl Iterator<Item = Fault> + '_ {
         let needs = self.needs.iter();
-        needs.filter_map(|need| need.unmet_by(self.presence(need.bench, need.beat)))
+        let needs = needs.filter_map(|need| need.unmet_by(self.presence(need.bench, need.beat)));
+        let views = self.views.iter().zip(self.span.into_iter().cycle());
+        needs.chain(views.filter_map(|(view, span)| view.missed_by(span)))
+    }
+
+    /// The lines that nothing can meet, since no line forges what they speak of.
+    pub fn unforged(&self) -> Vec<Fault> {
+        self.own.iter().filter_map(|own| own.unforged_by(&self.tells)).collect()
     }
 
     /// The schedule, all needs being met; or the statement that is missing.

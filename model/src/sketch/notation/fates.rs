@@ -3,6 +3,7 @@ use super::cursor::Cursor;
 use super::draft::Draft;
 use super::fault::Fault;
 use super::lists::{benches, numbers, Item};
+use super::meets::{beats_of, name, Own, Viewed};
 use super::needs::Deed;
 use super::parts::{kind, maybe_log, view};
 use crate::history::message::Kind;
@@ -12,13 +13,13 @@ use crate::sketch::schedule::Fate;
 pub fn read(cursor: &mut Cursor, draft: &mut Draft) -> Result<(), Fault> {
     draft.note_bench(cursor.line());
     let kind = kind(cursor)?;
-    let view = view(cursor)?;
+    let view = noted_view(cursor, draft, kind)?;
     cursor.must_take("of")?;
     let sender = sender(cursor, draft, kind)?;
     let log = maybe_log(cursor)?;
     let never = cursor.takes("never");
     cursor.must_take("reaches")?;
-    let receivers = draft.keepers_of(benches(cursor, draft.n)?)?;
+    let receivers = draft.keepers_of(benches(cursor, &draft.receivers())?)?;
     let mut fate = Fate {
         kind,
         view,
@@ -28,6 +29,7 @@ pub fn read(cursor: &mut Cursor, draft: &mut Draft) -> Result<(), Fault> {
         at: None,
     };
     check_is_new(draft, &fate, &receivers)?;
+    note_own(draft, &fate, &receivers);
     if !never {
         let beat = arrival(cursor, draft, &fate)?;
         fate.at = Some(beat);
@@ -37,13 +39,32 @@ pub fn read(cursor: &mut Cursor, draft: &mut Draft) -> Result<(), Fault> {
     cursor.end()
 }
 
+/// The view, of which the sketch must have beats, by lines before this one or after it.
+fn noted_view(cursor: &mut Cursor, draft: &mut Draft, kind: Kind) -> Result<u32, Fault> {
+    let word = cursor.peek().cloned();
+    let view = view(cursor)?;
+    draft.views.extend(word.map(|word| Viewed { kind, view, word }));
+    Ok(view)
+}
+
+/// Notes that the sender alone is named as a receiver.
+fn note_own(draft: &mut Draft, fate: &Fate, receivers: &[Item]) {
+    let [Item { number, word }] = receivers else {
+        return;
+    };
+    if *number == u32::from(fate.sender) && word.text != "all" {
+        let (fate, word) = (fate.clone(), word.clone());
+        draft.own.push(Own { fate, word });
+    }
+}
+
 /// Whose message it is. A PROPOSAL that a rule-breaker sends goes to whom it is told and no further, so it has no fate.
 fn sender(cursor: &mut Cursor, draft: &Draft, kind: Kind) -> Result<u8, Fault> {
     let sender = draft.benches().one(cursor)?;
     match (kind, draft.keeper(&sender)) {
         (Kind::Proposal, Err(_)) => Err(Fault::at(
             &sender.word,
-            "a rule-keeper (rule-breakers' PROPOSALs are not passed on)",
+            format!("{} (rule-breakers' PROPOSALs are not passed on)", draft.rule_keeper()),
         )),
         _ => Ok(sender.bench()),
     }
@@ -70,10 +91,7 @@ fn arrival(cursor: &mut Cursor, draft: &Draft, fate: &Fate) -> Result<u32, Fault
     cursor.must_take("at")?;
     let beat = draft.beats(cursor)?.one(cursor)?;
     let view = fate.view;
-    let (made, last, name) = match fate.kind {
-        Kind::Log => (4 * view + 1, 4 * view + 6, "LOG"),
-        Kind::Proposal => (4 * view, 4 * view + 1, "PROPOSAL"),
-    };
+    let ((made, last), name) = (beats_of(fate.kind, view), name(fate.kind));
     if (made + 1..=last).contains(&beat.number) {
         return Ok(beat.number);
     }

@@ -1,8 +1,10 @@
 //! Sketches that cannot be read, and what is said of each.
 mod lines;
+mod meant;
 
 use super::read;
 use lines::LINES;
+use meant::MEANT;
 
 /// Whole sketches, and what is said of each in the indented lines below it.
 const WHOLE: &str = "
@@ -78,6 +80,30 @@ benches 4
 0 sleeps 1
 beats 0-9
     line 2, column 10: expected 'beats A-B' in an earlier line (it comes before any line that names a beat), found '1'
+Benches 4
+    line 1, column 1: expected 'benches' or 'title' ('benches N' comes before everything but the title),
+    found 'Benches' (capital letters matter: 'benches')
+benches 4
+beats 0–9
+    line 2, column 7: expected a first beat from 0 to 4000006, found '0–9' (a range is written with '-')
+benches 9
+keepers 0-2 4 7-8
+beats 0-9
+3 sends LOG v0 [] to 0 at 2
+6 sends LOG v0 [] to 5 at 2
+    line 5, column 22: expected a rule-keeper, 0 to 2, 4 or 7 to 8 (bench 5 breaks the rules), found '5'
+benches 2
+LOG v2 of 0 never reaches 1
+beats 0-7
+    line 2, column 5: expected a view of which the sketch has beats, v0 to v1 (LOGs: 4v+1 to 4v+6), found 'v2'
+benches 2
+beats 7-8
+LOG v0 of 0 never reaches 1
+    line 3, column 5: expected a view of which the sketch has beats, v1 (LOGs: 4v+1 to 4v+6), found 'v0'
+benches 2
+beats 6-7
+PROPOSAL v1 of 0 never reaches 1
+    line 3, column 10: expected no line about a PROPOSAL (the sketch has none of the beats 4v to 4v+1 of any view), found 'v1'
 benches 4
 mistake half
     line 2, column 9: expected 'equivocators-unheard', 'majority-of-all', 'half-is-enough', 'snapshots-swapped',
@@ -91,6 +117,9 @@ beats 4000000-4000006
 0 offers 5 at 4000004
     line 3, column 15: expected a beat 4v (a block is used at beats 4v only: 0, 4, 8, .. up to 4000000), found '4000004'
 ";
+
+/// What stands before each line of the other tables.
+const HEAD: &str = "benches 4\nkeepers 0-2\nbeats 0-10\n";
 
 fn told(text: &str) -> String {
     match read(text) {
@@ -126,12 +155,17 @@ fn hold(head: &str, table: &str, least: usize) {
 
 #[test]
 fn whole_sketches() {
-    hold("", WHOLE, 27);
+    hold("", WHOLE, 33);
 }
 
 #[test]
 fn lines_about_benches_and_messages() {
-    hold("benches 4\nkeepers 0-2\nbeats 0-10\n", LINES, 50);
+    hold(HEAD, LINES, 50);
+}
+
+#[test]
+fn lines_that_mean_something_else() {
+    hold(HEAD, MEANT, 20);
 }
 
 #[test]

@@ -37,16 +37,29 @@ pub struct Scope {
     noun: &'static str,
     first: u32,
     last: u32,
-    note: &'static str,
+    /// The highest that may stand; those above it are read to be refused by name.
+    top: u32,
+    expected: String,
 }
 
 impl Scope {
     pub fn benches(n: u8) -> Scope {
+        let last = u32::from(n.saturating_sub(1));
         Scope {
             noun: "bench",
             first: 0,
-            last: u32::from(n.saturating_sub(1)),
-            note: "",
+            last,
+            top: last,
+            expected: format!("a bench from 0 to {last}"),
+        }
+    }
+
+    /// Those of n benches that receive: these rule-keepers, in these words.
+    pub fn receivers(n: u8, keepers: &[u8], expected: String) -> Scope {
+        Scope {
+            top: keepers.iter().max().copied().map_or(0, u32::from),
+            expected,
+            ..Scope::benches(n)
         }
     }
 
@@ -55,13 +68,14 @@ impl Scope {
             noun: "beat",
             first,
             last,
-            note: " (the sketch's beats)",
+            top: last,
+            expected: format!("a beat from {first} to {last} (the sketch's beats)"),
         }
     }
 
     /// One number of these.
     pub fn one(&self, cursor: &mut Cursor) -> Result<Item, Fault> {
-        let (number, word) = cursor.number(u64::from(self.first)..=u64::from(self.last), &self.expected())?;
+        let (number, word) = cursor.number(u64::from(self.first)..=u64::from(self.last), &self.expected)?;
         Ok(Item {
             number: number as u32,
             word,
@@ -92,7 +106,7 @@ impl Scope {
         if !cursor.skips("-") {
             return Ok(vec![Item { number: first, word }]);
         }
-        let expected = format!("the end of the range, from {first} to {}", self.last);
+        let expected = format!("the end of the range, from {first} to {}", self.top.max(first));
         let (last, end) = cursor.number(u64::from(first)..=u64::from(self.last), &expected)?;
         word.text = format!("{}-{}", word.text, end.text);
         let item = |number| Item {
@@ -102,9 +116,8 @@ impl Scope {
         Ok((first..=last as u32).map(item).collect())
     }
 
-    pub fn expected(&self) -> String {
-        let Scope { noun, first, last, note } = self;
-        format!("a {noun} from {first} to {last}{note}")
+    pub fn expected(&self) -> &str {
+        &self.expected
     }
 
     fn again(&self, number: u32) -> String {
@@ -120,12 +133,12 @@ pub fn numbers(items: &[Item]) -> Vec<u8> {
     numbers
 }
 
-/// A list of benches below n, or `all`.
-pub fn benches(cursor: &mut Cursor, n: u8) -> Result<Benches, Fault> {
+/// A list of these benches, or `all`.
+pub fn benches(cursor: &mut Cursor, scope: &Scope) -> Result<Benches, Fault> {
     if let Some(word) = cursor.peek().filter(|word| word.text == "all").cloned() {
         cursor.take();
         return Ok(Benches::All(word));
     }
     cursor.seek("'all'");
-    Ok(Benches::Listed(Scope::benches(n).list(cursor)?))
+    Ok(Benches::Listed(scope.list(cursor)?))
 }

@@ -232,6 +232,13 @@ fn a_late_message_need_not_find_its_own_sender() {
 }
 
 #[test]
+fn a_view_may_have_one_beat_and_a_forged_log_may_find_whom_it_seems_to_be_of() {
+    let text = "benches 3\nkeepers 0 1\nbeats 6-9\nLOG v0 of 0 never reaches 1\nLOG v2 of 0 never reaches 1\n\
+                PROPOSAL v2 of 0 never reaches 1\nLOG v1 of 1 [8] never reaches 1\n2 sends LOG v1 as 1 [8] to 0 at 6";
+    assert_eq!(schedule(text).fates.len(), 4);
+}
+
+#[test]
 fn a_damaged_sketch_has_its_fault_within_it() {
     for (place, c) in WHOLE.char_indices() {
         let (before, after) = (&WHOLE[..place], &WHOLE[place + c.len_utf8()..]);

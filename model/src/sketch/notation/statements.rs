@@ -85,7 +85,7 @@ fn keepers(cursor: &mut Cursor, draft: &mut Draft, word: &Word) -> Result<(), Fa
     if cursor.peek().is_none() {
         return Err(cursor.fault(format!("{} (somebody must keep the rules)", draft.benches().expected())));
     }
-    draft.keepers = Some(match benches(cursor, draft.n)? {
+    draft.keepers = Some(match benches(cursor, &draft.benches())? {
         Benches::All(_) => (0..draft.n).collect(),
         Benches::Listed(items) => numbers(&items),
     });

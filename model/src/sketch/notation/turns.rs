@@ -12,7 +12,7 @@ use crate::volume::schedule::Presence;
 /// `LIST sleeps ..`, `LIST begins ..`, `BENCH offers ..` or `BENCH sends ..`
 pub fn read(cursor: &mut Cursor, draft: &mut Draft) -> Result<(), Fault> {
     draft.note_bench(cursor.line());
-    let list = benches(cursor, draft.n)?;
+    let list = benches(cursor, &draft.benches())?;
     if cursor.takes("sleeps") {
         return presence(cursor, draft, list, Presence::Skips);
     }
@@ -89,8 +89,11 @@ fn check_offer(draft: &Draft, bench: u8, beat: &Item) -> Result<(), Fault> {
 fn sends(cursor: &mut Cursor, draft: &mut Draft, who: &Item) -> Result<(), Fault> {
     let teller = draft.breaker(who)?;
     let message = message(cursor, draft, teller)?;
+    if message.kind == Kind::Log && cursor.peek().is_some_and(|word| word.text == "priority") {
+        return Err(cursor.fault("'to' (a LOG has no priority)"));
+    }
     cursor.must_take("to")?;
-    let list = benches(cursor, draft.n)?;
+    let list = benches(cursor, &draft.receivers())?;
     let to_all = matches!(list, Benches::All(_));
     let receivers = draft.keepers_of(list)?;
     cursor.must_take("at")?;

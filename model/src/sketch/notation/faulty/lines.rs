@@ -12,7 +12,7 @@ sleep 2
 2x sleeps 3
     line 4, column 1: expected 'all' or a bench from 0 to 3, found '2x'
 1-3 sleeps 3
-    line 4, column 1: expected a rule-keeper (bench 3 breaks the rules), found '1-3'
+    line 4, column 1: expected a rule-keeper, 0 to 2 (bench 3 breaks the rules), found '1-3'
 2 sleeps
     line 4, column 9: expected a beat from 0 to 10 (the sketch's beats), found the end of the line
 2 sleeps 11
@@ -35,7 +35,7 @@ all begins 3
 all sends LOG v0 [] to 0 at 1
     line 4, column 5: expected 'sleeps' or 'begins' (only one bench at a time 'offers' or 'sends'), found 'sends'
 3 offers 5 at 4
-    line 4, column 1: expected a rule-keeper (bench 3 breaks the rules), found '3'
+    line 4, column 1: expected a rule-keeper, 0 to 2 (bench 3 breaks the rules), found '3'
 0 offers at 4
     line 4, column 10: expected a block such as 5 or 5*3, found 'at'
 0 offers 0 at 4
@@ -80,11 +80,11 @@ all sends LOG v0 [] to 0 at 1
 3 sends LOG v0 [5
     line 4, column 18: expected ']' or a block such as 5 or 5*3, found the end of the line
 3 sends LOG v0 [] priority 3 to 1 at 1
-    line 4, column 19: expected 'to', found 'priority'
+    line 4, column 19: expected 'to' (a LOG has no priority), found 'priority'
 3 sends PROPOSAL v0 [] 1 at 1
     line 4, column 24: expected 'priority' or 'to', found '1'
 3 sends LOG v0 [] to 0-3 at 1
-    line 4, column 22: expected a rule-keeper (bench 3 breaks the rules), found '0-3'
+    line 4, column 22: expected a rule-keeper, 0 to 2 (bench 3 breaks the rules), found '0-3'
 3 sends LOG v0 [] to 1 on 1
     line 4, column 24: expected another bench or 'at', found 'on'
 3 sends LOG v0 [] to 1 at 11
@@ -103,7 +103,7 @@ LOG v0 by 1 never reaches 2
 LOG v0 of 1 arrives
     line 4, column 13: expected a log such as [5 6*3], 'never' or 'reaches', found 'arrives'
 LOG v0 of 1 never reaches 3
-    line 4, column 27: expected a rule-keeper (bench 3 breaks the rules), found '3'
+    line 4, column 27: expected a rule-keeper, 0 to 2 (bench 3 breaks the rules), found '3'
 LOG v0 of 1 never reaches 2 at 3
     line 4, column 29: expected another bench or the end of the line, found 'at'
 LOG v0 of 1 reaches 2
@@ -121,7 +121,7 @@ PROPOSAL v1 of 1 reaches 2 at 4
     line 4, column 31: expected beat 5
     (a PROPOSAL of view 1 is made at beat 4 at the earliest, and taken up to beat 5), found '4'
 PROPOSAL v1 of 3 never reaches 2
-    line 4, column 16: expected a rule-keeper (rule-breakers' PROPOSALs are not passed on), found '3'
+    line 4, column 16: expected a rule-keeper, 0 to 2 (rule-breakers' PROPOSALs are not passed on), found '3'
 LOG v0 of 1 reaches all at 3
 2 sleeps 3
     line 4, column 21: expected a bench that begins beat 3
