@@ -18,6 +18,10 @@ struct Task {
 
 fn main() -> ExitCode {
     let arguments: Vec<OsString> = std::env::args_os().skip(1).collect();
+    if arguments.iter().any(|word| word == "--help" || word == "-h") {
+        say(&format!("{USAGE}\n"));
+        return ExitCode::SUCCESS;
+    }
     let task = match Task::of(&arguments) {
         Ok(task) => task,
         Err(fault) => {
@@ -28,8 +32,7 @@ fn main() -> ExitCode {
     let mut is_well = true;
     for file in &task.files {
         match show(file, task.rolls.as_deref()) {
-            // A reader that has seen enough and went away is no fault.
-            Ok(said) => drop(io::stdout().write_all(said.as_bytes())),
+            Ok(said) => say(&said),
             Err(fault) => {
                 eprintln!("{}: {fault}", file.display());
                 is_well = false;
@@ -41,6 +44,11 @@ fn main() -> ExitCode {
     } else {
         ExitCode::FAILURE
     }
+}
+
+/// Prints; a reader that has seen enough and went away is no fault.
+fn say(text: &str) {
+    drop(io::stdout().write_all(text.as_bytes()));
 }
 
 impl Task {
