@@ -27,3 +27,22 @@ fn the_mistakes_are_those_that_can_be_named() {
     let rules: Vec<_> = names.into_iter().map(named).collect();
     assert_eq!(rules, Rules::MISTAKES.map(|rules| Ok(Some(rules))));
 }
+
+#[test]
+fn the_faults_are_told_as_they_stand_there() {
+    let below = SKETCHES.split("### Faults").nth(1).unwrap_or_default();
+    let quoted: Vec<&str> = below.split("```").nth(1).unwrap_or_default().trim().lines().collect();
+    let lines = [
+        "2 sleeps 12",
+        "0 offers 5 at 4\n0 sleeps 4",
+        "LOG v0 of 1 never reaches 4",
+        "LOG v3 of 1 never reaches 0",
+        "2 sleeps 3–5",
+    ];
+    let told = (6..).zip(lines).map(|(number, line)| {
+        let gap = "\n".repeat(number - 3);
+        let fault = read(&format!("benches 5\nkeepers 0-3\nbeats 0-10{gap}{line}"));
+        fault.map_or_else(|fault| fault.to_string(), |_| "it can be read".to_string())
+    });
+    assert_eq!(quoted, told.collect::<Vec<_>>());
+}
