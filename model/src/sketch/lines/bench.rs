@@ -74,7 +74,7 @@ fn taken(take: &Take) -> String {
     let (sender, view) = (sent.sender, sent.view);
     let answer = match (take.answer, sent.kind) {
         (Ok(Word::First), _) => "first".to_string(),
-        (Ok(Word::Second), Kind::Log) => format!("second: {sender} has told two stories in view {view}"),
+        (Ok(Word::Second), Kind::Log) => format!("second, so there are two stories of {sender} in view {view}"),
         (Ok(Word::Second), Kind::Proposal) => format!("second, so {sender}'s are set aside in view {view}"),
         (Ok(Word::Known), _) => "known".to_string(),
         (Err(number), _) => format!("refused by {number} ({})", refusal(number)),
@@ -89,7 +89,7 @@ fn is_read(beat: &BeatRun, view: u32) -> bool {
     matches!(grade, Some(GradeRead::Read { view: read, .. }) if *read == view)
 }
 
-/// Who counts as a sender, for which log, and who has told two stories.
+/// Who counts as a sender, for which log, and of whom there are two stories.
 fn senders(agreement: &Agreement) -> String {
     let mut all: Vec<u8> = agreement.voters.keys().chain(&agreement.equivocators).copied().collect();
     all.sort_unstable();

@@ -47,7 +47,7 @@ fn a_vote_after_a_second_story() {
     assert_eq!(
         lines,
         [
-            "takes LOG v0 of 3 [8]: second: 3 has told two stories in view 0; passed on",
+            "takes LOG v0 of 3 [8]: second, so there are two stories of 3 in view 0; passed on",
             "GA 0: senders 0 1 2 3; [5]: 0 1 2; of two logs (E): 3",
             "takes snapshot two of GA 0: 0 1 2",
         ]
