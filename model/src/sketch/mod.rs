@@ -1,5 +1,6 @@
 //! Sketches: a schedule of many benches in a small text notation, played through the proved code, told in plain lines and drawn
 //! in one picture (docs/SKETCHES.md teaches the notation).
+pub mod failures;
 pub mod lines;
 pub mod machine;
 pub mod notation;

@@ -1,4 +1,4 @@
-//! Words that lines and pictures share: logs as sketches write them, and the mistakes.
+//! Words that lines and pictures share: logs as sketches write them, numbers, and the mistakes.
 use crate::history::bench::Rules;
 use crate::history::message::Block;
 
@@ -14,6 +14,27 @@ pub fn block(block: &Block) -> String {
         1 => block.name.to_string(),
         count => format!("{}*{count}", block.name),
     }
+}
+
+/// A number and its noun.
+pub fn counted(number: usize, one: &str, several: &str) -> String {
+    format!("{number} {}", if number == 1 { one } else { several })
+}
+
+/// Ascending numbers one by one; four or more in a row by the first and the last.
+pub fn ranges(numbers: impl IntoIterator<Item = usize>) -> Vec<String> {
+    let mut rows: Vec<(usize, usize)> = vec![];
+    for number in numbers {
+        match rows.last_mut() {
+            Some((_, last)) if *last + 1 == number => *last = number,
+            _ => rows.push((number, number)),
+        }
+    }
+    let row = |&(first, last): &(usize, usize)| match last - first {
+        0..=2 => (first..=last).map(|number| number.to_string()).collect(),
+        _ => vec![format!("{first}-{last}")],
+    };
+    rows.iter().flat_map(row).collect()
 }
 
 /// A mistake in document 01's words, or the rules.

@@ -172,8 +172,8 @@ fn premises_that_hold_and_fail() {
     assert_said(
         &schedule,
         &[
-            "Delivery FAILS: LOG v0 of 1 [], sent by 1 at beat 1, was not with 0 by its act at beat 2",
-            "Numbers FAILS: 0 took at beat 6 a LOG of view 1 as of 1, which 1 never made",
+            "Delivery FAILS: LOG v0 of 1 [], made by 1 at beat 1, was not with 0 by its act at beat 2",
+            "Numbers FAILS: bench 0 took LOG v1 of 1 [9] at beat 6, which bench 1 never made",
             "view 0: 2 (0 1) against 1 rule-breaker view 1: 1 (0) against 1 rule-breaker: TOO FEW",
             "A premise fails, so demand 3 does not promise that decided logs agree here.",
         ],
@@ -187,7 +187,7 @@ fn each_log_that_was_not_delivered_is_told_once() {
     schedule.fates = vec![fate(3, 1, None)];
     let text = told(&schedule);
     for log in ["[5]", "[6]"] {
-        let said = format!("LOG v0 of 3 {log}, sent by 0 at beat 2, was not with 1 by its act at beat 3");
+        let said = format!("LOG v0 of 3 {log}, passed on by 0 at beat 2, was not with 1 by its act at beat 3");
         assert_eq!(text.matches(&said).count(), 1, "{text}");
     }
 }
