@@ -11,6 +11,8 @@ mod tests;
 mod vote;
 mod words;
 
+pub use outcome::on_demand_three;
+
 use super::story::{Run, Story};
 use crate::history::bench::Rules;
 use sheet::Sheet;

@@ -80,6 +80,12 @@ fn silent_from(run: &Run) -> Option<u32> {
     silent.last().map(|(view, _)| *view)
 }
 
+/// What the verdict says besides whether the promise is kept.
+pub fn on_demand_three(run: &Run) -> Vec<String> {
+    let promise = broken_promise(&run.broken).len().max(1);
+    verdict(run).into_iter().skip(promise).collect()
+}
+
 const KEPT: &str = "No two decided logs conflict, and each bench's standing log is the longest it decided.";
 
 fn broken_promise(broken: &[Broken]) -> Vec<String> {

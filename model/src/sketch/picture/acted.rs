@@ -1,7 +1,7 @@
 //! What the act of a rule-keeper reads, makes, decides and stores.
 use super::conflict::Conflicts;
 use super::mark::{Cell, Here, Mark, Sign};
-use super::words::{around, letter, log, message, priority, set};
+use super::words::{around, kind, log, message, priority, set, set_within};
 use crate::history::message::{Kind, Log, Message};
 use crate::sketch::story::{Act, GradeRead, Snapshot};
 
@@ -57,7 +57,7 @@ fn grade(here: Here, read: &GradeRead) -> Option<Mark> {
     Some(here.mark(Sign::Grade, &text, &format!("grade {grade} of GA {view}: {found}")))
 }
 
-/// The message made; at the beat of the vote, also that there is none, or the lock where the vote is for another log.
+/// The message made; at the beat of the vote, also that there is none, or first the lock where the vote is for another log.
 fn made(here: Here, act: &Act) -> Cell {
     let Some(made) = &act.made else {
         let voting = matches!(act.grade, GradeRead::Read { grade: 1, .. });
@@ -70,13 +70,13 @@ fn made(here: Here, act: &Act) -> Cell {
         Kind::Log => Sign::Vote,
         Kind::Proposal => Sign::Proposal,
     };
-    let text = around(&format!("{} ", letter(made.kind)), &made.log, &priority(made), sign.room());
-    let mut cell = vec![here.mark(sign, &text, &format!("makes the {}", message(made)))];
-    if let Some(lock) = other_lock(act, made) {
+    let text = around(&format!("{} ", kind(made.kind)), &made.log, &priority(made), sign.room());
+    let lock = other_lock(act, made).map(|lock| {
         let whole = format!("its lock is {}, its vote is for {}", log(lock), log(&made.log));
-        cell.push(here.mark(Sign::Lock, &around("lock ", lock, "", Sign::Lock.room()), &whole));
-    }
-    cell
+        here.mark(Sign::Lock, &around("lock ", lock, "", Sign::Lock.room()), &whole)
+    });
+    let made = here.mark(sign, &text, &format!("makes the {}", message(made)));
+    lock.into_iter().chain([made]).collect()
 }
 
 /// The lock, where the vote is for another log.
@@ -112,7 +112,7 @@ fn snapshot(here: Here, taken: &Snapshot) -> Mark {
         2 => "two".to_string(),
         other => other.to_string(),
     };
-    let senders = set(&taken.senders);
-    let whole = format!("takes snapshot {number} of GA {}: {senders}", taken.view);
+    let whole = format!("takes snapshot {number} of GA {}: {}", taken.view, set(&taken.senders));
+    let senders = set_within(&taken.senders, Sign::Snapshot.room().saturating_sub(number.len() + 1));
     here.mark(Sign::Snapshot, &format!("{number} {senders}"), &whole)
 }

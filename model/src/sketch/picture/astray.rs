@@ -1,7 +1,7 @@
-//! What of the rule-keepers' messages is lost or late: a broken line from where the message is sent to those it does not reach
-//! by default, and a word there.
-use super::mark::{Cell, Here, Sign};
-use super::words::{around, letter, message};
+//! What of the rule-keepers' messages is lost, or comes at a beat that the schedule names: a broken line from where the message is
+//! sent to those it does not reach by default, and a word at both ends.
+use super::mark::{Cell, Here, Mark, Sign};
+use super::words::{around, kind, message};
 use crate::history::message::{Log, Message};
 use crate::sketch::schedule::{Fate, Schedule};
 use crate::sketch::story::{BeatRun, BenchRun, Run, Take};
@@ -11,6 +11,7 @@ pub struct Astray<'a> {
     pub message: &'a Message,
     /// Who made it, or was the first to pass it on.
     pub from: u8,
+    pub passed_on: bool,
     pub beat: u32,
     pub to: Vec<u8>,
     /// The beat in whose gathering it arrives; never, if none.
@@ -25,7 +26,7 @@ pub fn astray<'a>(schedule: &Schedule, run: &'a Run) -> Vec<Astray<'a>> {
     let mut found: Vec<Astray> = vec![];
     for fate in &schedule.fates {
         let mut seen: Vec<&Log> = vec![];
-        for &(beat, from, message) in sent.iter().filter(|(_, _, message)| concerns(fate, message)) {
+        for &(beat, from, message, passed_on) in sent.iter().filter(|(_, _, message, _)| concerns(fate, message)) {
             let lane = found.iter().filter(|other| other.beat == beat).count();
             let misses = |to: &u8| *to != from && !is_told(run, *to, beat, message);
             let to: Vec<u8> = fate.to.iter().copied().filter(misses).collect();
@@ -36,6 +37,7 @@ pub fn astray<'a>(schedule: &Schedule, run: &'a Run) -> Vec<Astray<'a>> {
             found.push(Astray {
                 message,
                 from,
+                passed_on,
                 beat,
                 to,
                 at: fate.at,
@@ -57,24 +59,58 @@ fn is_told(run: &Run, own: u8, by: u32, message: &Message) -> bool {
     takes.any(|take| take.teller.is_some() && take.answer.is_ok() && take.message == *message)
 }
 
+/// A message sent: the beat, by whom, and whether it was passed on.
+type Sent<'a> = (u32, u8, &'a Message, bool);
+
 /// What rule-keepers make and pass on, by beats.
-fn sent<'a>(schedule: &Schedule, run: &'a Run) -> Vec<(u32, u8, &'a Message)> {
+fn sent<'a>(schedule: &Schedule, run: &'a Run) -> Vec<Sent<'a>> {
     let of_bench = |bench: &'a BenchRun| bench.beats.iter().flat_map(move |beat| sent_at(bench.own, beat));
-    let mut sent: Vec<(u32, u8, &Message)> = run.benches.iter().flat_map(of_bench).collect();
-    sent.retain(|(beat, _, _)| (schedule.first_beat..=schedule.last_beat).contains(beat));
-    sent.sort_by_key(|(beat, _, _)| *beat);
+    let mut sent: Vec<Sent> = run.benches.iter().flat_map(of_bench).collect();
+    sent.retain(|(beat, ..)| (schedule.first_beat..=schedule.last_beat).contains(beat));
+    sent.sort_by_key(|(beat, ..)| *beat);
     sent
 }
 
-fn sent_at(own: u8, beat: &BeatRun) -> impl Iterator<Item = (u32, u8, &Message)> {
-    let passed_on = beat.takes.iter().filter(|take| take.is_passed_on()).map(|take| &take.message);
-    let made = beat.act.iter().filter_map(|act| act.made.as_ref());
-    passed_on.chain(made).map(move |message| (beat.beat, own, message))
+fn sent_at(own: u8, beat: &BeatRun) -> impl Iterator<Item = Sent<'_>> {
+    let passed_on = beat
+        .takes
+        .iter()
+        .filter(|take| take.is_passed_on())
+        .map(|take| (&take.message, true));
+    let made = beat.act.iter().filter_map(|act| Some((act.made.as_ref()?, false)));
+    passed_on
+        .chain(made)
+        .map(move |(message, passed_on)| (beat.beat, own, message, passed_on))
 }
 
 fn concerns(fate: &Fate, message: &Message) -> bool {
     let same = (fate.kind, fate.view, fate.sender) == (message.kind, message.view, message.sender);
     same && fate.log.as_ref().is_none_or(|log| *log == message.log)
+}
+
+impl Astray<'_> {
+    /// The words where it is passed on, so that its line does not seem to start at what the act does.
+    pub fn passing(&self) -> Option<Mark> {
+        let here = Here {
+            own: self.from,
+            beat: self.beat,
+        };
+        let whole = format!("passes on the {}", message(self.message));
+        let text = short("passes on", self.message, Sign::Passes);
+        self.passed_on.then(|| here.mark(Sign::Passes, &text, &whole))
+    }
+}
+
+/// The words at a bench on what it passes on and others do not get by default, once for each message.
+pub fn passes(all: &[Astray], here: Here) -> Cell {
+    let mut cell = Cell::new();
+    for astray in all
+        .iter()
+        .filter(|astray| (astray.from, astray.beat) == (here.own, here.beat))
+    {
+        cell.extend(astray.passing().filter(|mark| !cell.contains(mark)));
+    }
+    cell
 }
 
 /// The words at a bench that a message does not reach by default, in the column in which it is sent.
@@ -85,21 +121,12 @@ pub fn missed(all: &[Astray], here: Here) -> Cell {
     let mark = |astray: &Astray| {
         let (sign, word, fate) = match astray.at {
             None => (Sign::Lost, "lost", "never reaches it".to_string()),
-            Some(at) => (Sign::Late, timing(here.beat, at), format!("reaches it at beat {at}")),
+            Some(at) => (Sign::Sent, "sent", format!("reaches it at beat {at}")),
         };
         let whole = format!("the {}, sent now by bench {}, {fate}", message(astray.message), astray.from);
         here.mark(sign, &short(word, astray.message, sign), &whole)
     };
     missing.map(mark).collect()
-}
-
-/// The word for when a message arrives that is sent at this beat.
-fn timing(beat: u32, at: u32) -> &'static str {
-    match at {
-        _ if at <= beat => "early",
-        _ if at == beat + 1 => "timed",
-        _ => "late",
-    }
 }
 
 /// The words at a bench that a message reaches at a beat that the schedule names.
@@ -119,6 +146,6 @@ pub fn comes(schedule: &Schedule, own: u8, beat: &BeatRun) -> Cell {
 }
 
 fn short(word: &str, message: &Message, sign: Sign) -> String {
-    let (before, after) = (format!("{word} {} ", letter(message.kind)), format!(" of {}", message.sender));
+    let (before, after) = (format!("{word} {} ", kind(message.kind)), format!(" of {}", message.sender));
     around(&before, &message.log, &after, sign.room())
 }

@@ -58,6 +58,8 @@ fn phase(beat: u32) -> [&'static str; 2] {
         _ if beat / 4 > LAST_VIEW => ["", ""],
         0 => ["propose", ""],
         1 => ["vote", ""],
+        // There is no view before view 0 to decide by.
+        2 if beat == 2 => ["take snapshot one", ""],
         2 => ["decide, and", "take snapshot one"],
         _ => ["take snapshot two", ""],
     }

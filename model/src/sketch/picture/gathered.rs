@@ -1,6 +1,6 @@
 //! What a rule-keeper learns in its gathering of a beat: equivocators, proposals set aside, what it refuses.
 use super::mark::{Cell, Here, Mark, Sign};
-use super::words::{message, of_view, set};
+use super::words::{message, of_view, set, set_within};
 use crate::history::bench::Word;
 use crate::history::message::Kind;
 use crate::sketch::story::{BeatRun, Take};
@@ -13,10 +13,10 @@ pub type Shown = BTreeMap<u32, BTreeSet<u8>>;
 pub fn marks(here: Here, beat: &BeatRun, shown: &mut Shown) -> Cell {
     let mut cell = Cell::new();
     for (view, senders) in equivocators(beat, shown) {
-        let senders = set(&senders);
-        let whole = format!("it now has two different LOGs of view {view} of each of {senders}: equivocators");
-        let text = format!("E {senders}{}", of_view(view, here.beat));
-        cell.push(here.mark(Sign::Equivocator, &text, &whole));
+        let (names, of_view) = (set(&senders), of_view(view, here.beat));
+        let whole = format!("it now has two different LOGs of view {view} of each of {names}: equivocators");
+        let names = set_within(&senders, Sign::Equivocator.room().saturating_sub(2 + of_view.len()));
+        cell.push(here.mark(Sign::Equivocator, &format!("E {names}{of_view}"), &whole));
     }
     cell.extend(aside(here, beat));
     cell.extend(refused(here, beat));
@@ -47,8 +47,8 @@ fn equivocators(beat: &BeatRun, shown: &mut Shown) -> Shown {
 fn aside(here: Here, beat: &BeatRun) -> Option<Mark> {
     let second = beat.takes.iter().filter(|take| is_second(take, Kind::Proposal));
     let senders: BTreeSet<u8> = second.map(|take| take.message.sender).collect();
-    let names = set(&senders);
-    let whole = format!("it now has two different PROPOSALs of each of {names}: set aside");
+    let whole = format!("it now has two different PROPOSALs of each of {}: set aside", set(&senders));
+    let names = set_within(&senders, Sign::Aside.room().saturating_sub(6));
     (!senders.is_empty()).then(|| here.mark(Sign::Aside, &format!("aside {names}"), &whole))
 }
 

@@ -1,5 +1,5 @@
 //! The rows of the rule-keepers: for each beat, what comes, what is learned, what the act does, what is missed.
-use super::astray::{comes, missed, Astray};
+use super::astray::{comes, missed, passes, Astray};
 use super::conflict::Conflicts;
 use super::gathered::{self, Shown};
 use super::mark::{Cell, Here, Mark, Sign};
@@ -15,7 +15,7 @@ pub struct Source<'a> {
     pub schedule: &'a Schedule,
     pub run: &'a Run,
     pub astray: &'a [Astray<'a>],
-    pub notes: &'a [Note<'a>],
+    pub notes: &'a [Note],
 }
 
 impl Source<'_> {
@@ -46,6 +46,7 @@ impl Source<'_> {
             cell.extend(absent(here, beat));
             cell.extend(comes(self.schedule, own, beat));
             cell.extend(gathered::marks(here, beat, &mut shown));
+            cell.extend(passes(self.astray, here));
             if let Some(act) = &beat.act {
                 cell.extend(acted::marks(here, act, conflicts, parted));
                 parted |= act.parted;

@@ -9,8 +9,6 @@ const LABEL_AGAIN: i32 = 72;
 pub const MARGIN: i32 = 16;
 /// The width of the rows' labels.
 pub const LABEL: i32 = 152;
-/// The width of the text of a cell.
-pub const TEXT: i32 = ROOM as i32 * CHARACTER;
 /// The width that one upright line is given.
 const LANE: i32 = 11;
 /// Left and right in a column.
@@ -22,10 +20,12 @@ const FOOT: i32 = 9;
 /// The least height of a row, for its label.
 const LEAST: i32 = 44;
 
-/// How many upright lines a column has.
-#[derive(Clone, Copy, Default, PartialEq, Eq, Debug)]
+/// What a column needs: room for the text of its cells, and its upright lines.
+#[derive(Clone, Copy, PartialEq, Eq, Debug)]
 pub struct Lanes {
-    /// Of messages lost or late; nearest to the text.
+    /// How many characters of text.
+    pub text: usize,
+    /// Of messages lost or sent for another beat; nearest to the text.
     pub astray: usize,
     /// Of what rule-breakers tell.
     pub told: usize,
@@ -33,14 +33,31 @@ pub struct Lanes {
     pub conflict: usize,
 }
 
+/// No lines, and text as every cell has it.
+impl Default for Lanes {
+    fn default() -> Lanes {
+        Lanes {
+            text: ROOM,
+            astray: 0,
+            told: 0,
+            conflict: 0,
+        }
+    }
+}
+
 impl Lanes {
-    /// Room for the lines of either.
+    /// Room for what either needs.
     pub fn or(self, other: Lanes) -> Lanes {
         Lanes {
+            text: self.text.max(other.text),
             astray: self.astray.max(other.astray),
             told: self.told.max(other.told),
             conflict: self.conflict.max(other.conflict),
         }
+    }
+
+    fn text_width(self) -> i32 {
+        self.text as i32 * CHARACTER
     }
 
     fn width(self) -> i32 {
@@ -69,7 +86,7 @@ impl Columns {
                 labels_again.push(left);
                 (left, since) = (left + LABEL_AGAIN, 0);
             }
-            let right = left + 2 * SIDE + lanes.width() + TEXT;
+            let right = left + 2 * SIDE + lanes.width() + lanes.text_width();
             sides.push((left, right));
             (left, since) = (right, since + 1);
         }
@@ -103,7 +120,7 @@ impl Columns {
 
     /// Where the text of a column's cells begins.
     pub fn text(&self, column: usize) -> i32 {
-        self.right(column) - SIDE - TEXT
+        self.right(column) - SIDE - self.lanes[column].text_width()
     }
 
     pub fn astray(&self, column: usize, lane: usize) -> i32 {

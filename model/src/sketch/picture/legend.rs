@@ -10,14 +10,17 @@ use crate::volume::schedule::Presence;
 use std::collections::BTreeSet;
 
 /// The width of an entry, and how much of it is the sample's.
-const ENTRY: i32 = 640;
-const SAMPLE: i32 = 150;
+const ENTRY: i32 = 680;
+const SAMPLE: i32 = 190;
 /// The width of a sample of a bar.
 const BAR: i32 = 120;
 const GENERAL: &str = "A log is written by the names of its blocks, the oldest first: [5 6*3] is block 5 with one entry and \
     block 6 with three, [] is the empty log. Where a text is cut (…), point at it to read it whole. GA v is the agreement of \
-    view v. Each cell has, from the top down, what a bench hears in a beat and then what its act does. What a rule-keeper makes or \
-    passes on comes to each other one in the next beat at which that one is awake; it is drawn only where it is lost or late.";
+    view v. In a rule-keeper's cell stand, from the top down: that it is not awake; what comes to it and what it learns in its \
+    gathering; what it passes on, where a broken line starts; the grade that its act reads, its lock, what it makes, what it \
+    decides and the snapshot it takes; what others send it in this beat, where a broken line ends; where a premise fails. What a \
+    rule-keeper makes or passes on comes to each other one in the next beat at which that one is awake; it is drawn only where \
+    it is lost, or comes at a beat that the sketch says.";
 
 /// Draws the legend from `top` down, in as many columns as there is width for, and says where it ends.
 pub fn draw(svg: &mut Svg, signs: &BTreeSet<Sign>, width: i32, top: i32) -> i32 {
@@ -72,7 +75,7 @@ fn sample(svg: &mut Svg, sign: Sign, (x, y): (i32, i32)) {
             arrowhead(svg, (x + 20, y + 1), WHITE);
             drawn(svg, sign, (x + 34, y));
         }
-        Sign::Lost | Sign::Late => {
+        Sign::Lost | Sign::Sent | Sign::Passes => {
             svg.line((x, y + 7), (x + 18, y + 7), BROKEN);
             drawn(svg, sign, (x + 18, y));
         }

@@ -2,7 +2,7 @@
 //! does not reach.
 use super::astray::Astray;
 use super::layout::{self, Columns};
-use super::mark::{story_pen, Sign};
+use super::mark::{story_pen, Mark, Sign};
 use super::panel::Panel;
 use super::svg::{dashed, pen, Pen, Svg, BLACK, WHITE};
 use super::told::Told;
@@ -93,13 +93,16 @@ fn draw_astray(svg: &mut Svg, panel: &Panel, columns: &Columns, place: usize, to
     }
 }
 
-/// How far down the message stands: at its mark where it was made, else where it was handed over.
+/// How far down the message stands: at its mark where it was made or passed on.
 fn start(panel: &Panel, astray: &Astray, column: usize) -> Option<i32> {
     let row = panel.row(astray.from)?;
     let (cell, span) = (panel.rows[row].cells.get(column)?, panel.spans[row]);
-    let made = cell.iter().position(|mark| matches!(mark.sign, Sign::Vote | Sign::Proposal));
-    let made = made.filter(|_| astray.from == astray.message.sender);
-    Some(made.map_or(span.arrival(), |mark| span.middle(cell, mark)))
+    let passing = astray.passing();
+    let is_it = |mark: &Mark| match &passing {
+        Some(passing) => mark == passing,
+        None => matches!(mark.sign, Sign::Vote | Sign::Proposal),
+    };
+    cell.iter().position(is_it).map(|mark| span.middle(cell, mark))
 }
 
 /// How far down the words on it stand at a bench that it does not reach: the messages missed there in this beat have theirs in
@@ -112,6 +115,6 @@ fn end(panel: &Panel, place: usize, to: u8, column: usize) -> Option<i32> {
         .iter()
         .filter(|other| other.beat == panel.astray[place].beat && other.to.contains(&to))
         .count();
-    let mut words = (0..cell.len()).filter(|&mark| matches!(cell[mark].sign, Sign::Lost | Sign::Late));
+    let mut words = (0..cell.len()).filter(|&mark| matches!(cell[mark].sign, Sign::Lost | Sign::Sent));
     words.nth(before).map(|mark| span.middle(cell, mark))
 }

@@ -4,8 +4,12 @@ use super::words::{cut, width};
 
 /// The width that one character is given.
 pub const CHARACTER: i32 = 7;
-/// How many characters a cell has room for.
+/// How many characters every cell has room for.
 pub const ROOM: usize = 18;
+/// How many the words on what goes astray may have, for which a column is made wider.
+const WIDE: usize = 26;
+/// Between the broken line of what is passed on and its words.
+const PASSING: i32 = 5;
 /// The size of letters in a cell.
 pub const LETTERS: i32 = 11;
 
@@ -34,8 +38,9 @@ pub enum Sign {
     Forged,
     Nobody,
     Lost,
-    Late,
+    Sent,
     Comes,
+    Passes,
     Counted,
     Breach,
 }
@@ -57,6 +62,11 @@ impl Mark {
     pub fn new(sign: Sign, text: &str, whole: String) -> Mark {
         let text = cut(text, sign.room());
         Mark { sign, text, whole }
+    }
+
+    /// How many characters wide it is, with its shape.
+    pub fn extent(&self) -> usize {
+        self.sign.shape() + width(&self.text)
     }
 
     /// How wide its text is, in pixels.
@@ -83,11 +93,20 @@ impl Sign {
     /// How many characters it has room for, beside its shape.
     pub fn room(self) -> usize {
         match self {
-            Sign::Snapshot | Sign::Breach => ROOM - 3,
-            Sign::Told(_) => ROOM - 4,
-            Sign::Proposal | Sign::Vote | Sign::Decision | Sign::Conflict | Sign::Parted => ROOM - 2,
-            Sign::Lost | Sign::Late | Sign::Comes => ROOM - 2,
-            _ => ROOM,
+            Sign::Lost | Sign::Sent | Sign::Comes | Sign::Passes => WIDE - self.shape(),
+            _ => ROOM - self.shape(),
+        }
+    }
+
+    /// How many characters wide its shape is.
+    fn shape(self) -> usize {
+        match self {
+            Sign::Snapshot | Sign::Breach => 3,
+            Sign::Told(_) => 4,
+            Sign::Proposal | Sign::Vote | Sign::Decision | Sign::Conflict | Sign::Parted => 2,
+            Sign::Lost | Sign::Sent | Sign::Comes => 2,
+            Sign::Passes => 1,
+            _ => 0,
         }
     }
 
@@ -130,7 +149,8 @@ pub fn draw(svg: &mut Svg, at: (i32, i32), mark: &Mark) {
         Sign::Conflict => conflict(svg, at, mark),
         Sign::Snapshot => snapshot(svg, at, mark),
         Sign::Breach => breach(svg, at, mark),
-        Sign::Lost | Sign::Late | Sign::Comes => astray(svg, at, mark),
+        Sign::Lost | Sign::Sent | Sign::Comes => astray(svg, at, mark),
+        Sign::Passes => written(svg, at, PASSING, regular(LETTERS, BLACK), &mark.text),
         Sign::Equivocator => written(svg, at, 0, bold(LETTERS, BLACK), &mark.text),
         Sign::Grade | Sign::NoVote | Sign::Asleep | Sign::Begins => written(svg, at, 0, regular(LETTERS, GREY), &mark.text),
         _ => written(svg, at, 0, regular(LETTERS, BLACK), &mark.text),
@@ -191,7 +211,7 @@ fn breach(svg: &mut Svg, (x, y): (i32, i32), mark: &Mark) {
 fn astray(svg: &mut Svg, (x, y): (i32, i32), mark: &Mark) {
     match mark.sign {
         Sign::Lost => svg.cross((x + 5, y + 7), 3, pen(BLACK, 2)),
-        Sign::Late => svg.circle((x + 5, y + 7), 3, WHITE, pen(BLACK, 1)),
+        Sign::Sent => svg.circle((x + 5, y + 7), 3, WHITE, pen(BLACK, 1)),
         _ => svg.circle((x + 5, y + 7), 3, BLACK, pen(BLACK, 1)),
     }
     written(svg, (x, y), 12, regular(LETTERS, BLACK), &mark.text);

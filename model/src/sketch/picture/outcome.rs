@@ -1,4 +1,4 @@
-//! Below the rows of a run: where the premises fail, what of the promise is broken, and the verdict.
+//! Below the rows of a run: where the premises fail, what of the promise is broken, the verdict, and what demand 3 says of it.
 use super::conflict::first;
 use super::layout::MARGIN;
 use super::premises::Note;
@@ -6,6 +6,7 @@ use super::prose::{paragraph, room, write};
 use super::svg::{bold, pen, regular, Svg, BLACK, RED, WHITE};
 use super::words::{log, set, wrap};
 use crate::history::message::Log;
+use crate::sketch::lines::on_demand_three;
 use crate::sketch::story::Run;
 use crate::volume::promise::{Broken, Decision};
 use std::collections::BTreeSet;
@@ -13,16 +14,20 @@ use std::collections::BTreeSet;
 /// Draws all that from `top` down, and says where it ends.
 pub fn draw(svg: &mut Svg, run: &Run, notes: &[Note], width: i32, top: i32) -> i32 {
     let mut y = top;
-    for (place, note) in notes.iter().enumerate() {
-        y = paragraph(svg, &note.words(place + 1), regular(12, RED), width, y);
+    for note in notes {
+        y = paragraph(svg, &note.words(), regular(12, RED), width, y);
     }
-    if notes.is_empty() {
+    if run.breaches.is_empty() {
         y = paragraph(svg, "All three premises hold.", regular(12, BLACK), width, y);
     }
     for words in besides(run) {
         y = paragraph(svg, &words, regular(12, BLACK), width, y);
     }
-    draw_verdict(svg, run, width, y + 4)
+    y = draw_verdict(svg, run, width, y + 4);
+    for words in on_demand_three(run) {
+        y = paragraph(svg, &words, regular(12, BLACK), width, y);
+    }
+    y
 }
 
 /// What is broken besides a conflict.
@@ -61,7 +66,7 @@ fn verdict(run: &Run) -> String {
         format!("bench {} decides {} at beat {}", decision.bench, log(decided), decision.beat)
     };
     format!(
-        "CONFLICT: {}, and {}; neither log starts with the other.",
+        "CONFLICT, two histories: {}, and {}; neither log starts with the other.",
         decides(one, first),
         decides(other, second)
     )

@@ -6,7 +6,7 @@ use super::conflict::{self, End};
 use super::keepers::Source;
 use super::layout::{spans, Columns, Lanes, Span};
 use super::lines;
-use super::mark::Sign;
+use super::mark::{Mark, Sign};
 use super::outcome;
 use super::premises::{majority, notes, Note};
 use super::prose::paragraph;
@@ -30,7 +30,7 @@ pub struct Panel<'a> {
     pub spans: Vec<Span>,
     pub told: Vec<Told<'a>>,
     pub astray: Vec<Astray<'a>>,
-    notes: Vec<Note<'a>>,
+    notes: Vec<Note>,
     columns: usize,
 }
 
@@ -38,7 +38,7 @@ impl<'a> Panel<'a> {
     pub fn new(story: &'a Story, run: &'a Run, columns: usize) -> Panel<'a> {
         let schedule = &story.schedule;
         let breakers = breakers(schedule);
-        let (astray, notes) = (astray(schedule, run), notes(run));
+        let (astray, notes) = (astray(schedule, run), notes(schedule, run));
         let source = Source {
             schedule,
             run,
@@ -70,12 +70,14 @@ impl<'a> Panel<'a> {
         }
     }
 
-    /// The upright lines that each column needs.
+    /// What each column needs: room for its widest mark, and its upright lines.
     pub fn lanes(&self) -> Vec<Lanes> {
         let lanes = |column: usize| {
             let beat = self.schedule.first_beat + column as u32;
             let ends = conflict::first(self.run).map(|(ends, _)| ends.map(|end| end.beat));
+            let marks = self.rows.iter().flat_map(|row| &row.cells[column]);
             Lanes {
+                text: marks.map(Mark::extent).max().unwrap_or(0),
                 astray: self.astray.iter().filter(|astray| astray.beat == beat).count(),
                 told: self.told.iter().filter(|told| told.column == column).count(),
                 conflict: ends.is_some_and(|ends| ends.contains(&beat)).into(),

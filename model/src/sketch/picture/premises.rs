@@ -1,77 +1,46 @@
 //! Where the premises fail: a mark in the cell or column concerned, and a note of the same number below the rows. And who
 //! counts towards each view's majority.
 use super::mark::{Cell, Here, Mark, Sign};
-use super::words::{counted, list, set};
+use super::words::{counted, list_within, set, set_within};
+use crate::sketch::failures::{failures, Failure, Place};
 use crate::sketch::schedule::Schedule;
 use crate::sketch::story::Run;
-use crate::volume::premises::Breach;
+use crate::volume::premises::Premise;
 
-/// A breach; of the majority, also the last of the views following on it in which the same is the case.
-pub struct Note<'a> {
-    breach: &'a Breach,
-    last_view: u32,
+/// A failure of a premise, with its number.
+pub struct Note {
+    number: usize,
+    failure: Failure,
 }
 
-/// The breaches of a run in their order, numbered from 1 on by their places.
-pub fn notes(run: &Run) -> Vec<Note<'_>> {
-    let mut notes: Vec<Note> = vec![];
-    for breach in &run.breaches {
-        match notes.last_mut() {
-            Some(note) if note.goes_on_in(breach) => note.last_view += 1,
-            _ => notes.push(Note {
-                breach,
-                last_view: view(breach),
-            }),
-        }
-    }
-    notes
+/// The failures of a run in their order, numbered from 1 on.
+pub fn notes(schedule: &Schedule, run: &Run) -> Vec<Note> {
+    let note = |(number, failure)| Note { number, failure };
+    (1..).zip(failures(schedule, run)).map(note).collect()
 }
 
-fn view(breach: &Breach) -> u32 {
-    match breach {
-        Breach::Delivery { view, .. } | Breach::Numbers { view, .. } | Breach::Majority { view, .. } => *view,
-    }
-}
-
-impl Note<'_> {
-    fn goes_on_in(&self, next: &Breach) -> bool {
-        match (self.breach, next) {
-            (
-                Breach::Majority { awake, breakers, .. },
-                Breach::Majority {
-                    awake: same,
-                    breakers: alike,
-                    view,
-                },
-            ) => (awake, breakers) == (same, alike) && *view == self.last_view + 1,
-            _ => false,
-        }
-    }
-
+impl Note {
     /// The note below the rows.
-    pub fn words(&self, number: usize) -> String {
-        let more = match view(self.breach) == self.last_view {
-            true => String::new(),
-            false => format!(", and so has each view to view {}", self.last_view),
+    pub fn words(&self) -> String {
+        let premise = match self.failure.premise {
+            Premise::Delivery => "delivery",
+            Premise::Numbers => "numbers",
+            Premise::Majority => "the majority",
         };
-        format!("BREACH {number} of a premise, {}{more}", self.breach)
+        format!("BREACH {} of the premise on {premise}: {}", self.number, self.failure.words)
     }
 
     /// Whether it concerns this bench at this beat.
     fn is_at(&self, here: Here) -> bool {
-        match *self.breach {
-            Breach::Delivery { to, due, .. } => (to, due) == (here.own, here.beat),
-            Breach::Numbers { taker, beat, .. } => (taker, beat) == (here.own, here.beat),
-            Breach::Majority { .. } => false,
-        }
+        matches!(&self.failure.place, Place::Benches { benches, beat } if *beat == here.beat && benches.contains(&here.own))
     }
 
     /// Whether it is of the majority and shown at this beat: that of the vote, or the nearest that the schedule has.
     fn is_of_all_at(&self, schedule: &Schedule, beat: u32) -> bool {
-        let Breach::Majority { view: first, .. } = *self.breach else {
+        let Place::Views { first, last } = self.failure.place else {
             return false;
         };
-        let (earliest, latest) = (vote_beat(first), vote_beat(self.last_view));
+        let (earliest, latest) = (vote_beat(first), vote_beat(last));
         let within = beat % 4 == 1 && (earliest..=latest).contains(&beat);
         let before = beat == schedule.first_beat && earliest <= beat;
         let after = beat == schedule.last_beat && latest >= beat;
@@ -89,10 +58,14 @@ pub fn at_bench(notes: &[Note], here: Here) -> Option<Mark> {
 }
 
 fn mark(notes: &[Note], concerns: impl Fn(&Note) -> bool) -> Option<Mark> {
-    let numbered = notes.iter().enumerate().filter(|(_, note)| concerns(note));
-    let (numbers, words): (Vec<usize>, Vec<String>) = numbered.map(|(place, note)| (place + 1, note.words(place + 1))).unzip();
-    let text = format!("BREACH {}", list(numbers.iter().copied()));
-    (!numbers.is_empty()).then(|| Mark::new(Sign::Breach, &text, words.join("; ")))
+    let (numbers, words): (Vec<usize>, Vec<String>) = notes
+        .iter()
+        .filter(|note| concerns(note))
+        .map(|note| (note.number, note.words()))
+        .unzip();
+    const BREACH: &str = "BREACH ";
+    let list = list_within(numbers.iter().copied(), Sign::Breach.room() - BREACH.len());
+    (!numbers.is_empty()).then(|| Mark::new(Sign::Breach, &format!("{BREACH}{list}"), words.join("; ")))
 }
 
 /// The row on the majority: who counts in each view, at the beat of its vote, and where they are too few.
@@ -108,7 +81,9 @@ pub fn majority(schedule: &Schedule, run: &Run, notes: &[Note], columns: usize) 
                 who.len(),
                 set(who)
             );
-            Mark::new(Sign::Counted, &format!("{} to {breakers}: {}", who.len(), set(who)), whole)
+            let before = format!("{} to {breakers}: ", who.len());
+            let who = set_within(who, Sign::Counted.room().saturating_sub(before.len()));
+            Mark::new(Sign::Counted, &format!("{before}{who}"), whole)
         };
         let counted = run.counted.iter().filter(|(view, _)| shown(*view)).map(of_view);
         counted.chain(mark(notes, |note| note.is_of_all_at(schedule, beat))).collect()

@@ -5,7 +5,7 @@ use super::mark::Sign;
 pub fn sample(sign: Sign) -> &'static str {
     match sign {
         Sign::Proposal => "P [5] p9",
-        Sign::Vote => "V [5 6]",
+        Sign::Vote => "LOG [5 6]",
         Sign::NoVote => "no vote",
         Sign::Lock => "lock [5]",
         Sign::Grade => "g2 [5] 3/4",
@@ -16,12 +16,13 @@ pub fn sample(sign: Sign) -> &'static str {
         Sign::Equivocator => "E {3} v0",
         Sign::Aside => "aside {3}",
         Sign::Refused => "refused 21",
-        Sign::Told(_) => "V [7] v0",
+        Sign::Told(_) => "LOG [7] v0",
         Sign::Forged => "forged as bench 1",
         Sign::Nobody => "to nobody",
-        Sign::Lost => "lost V [5] of 0",
-        Sign::Late => "late V [5] of 0",
-        Sign::Comes => "comes V [5] of 0",
+        Sign::Lost => "lost LOG [5] of 0",
+        Sign::Sent => "sent LOG [5] of 0",
+        Sign::Comes => "comes LOG [5] of 0",
+        Sign::Passes => "passes on LOG [5] of 3",
         Sign::Counted => "3 to 1: {0,1,2}",
         Sign::Breach => "BREACH 1",
         Sign::Awake | Sign::Begins | Sign::Asleep | Sign::Stories => "",
@@ -37,7 +38,7 @@ pub fn words(sign: Sign) -> &'static str {
         Sign::Proposal => "makes a PROPOSAL of this log, here with priority 9 (1 if none is written)",
         Sign::Vote => "votes: makes a LOG of this view with this log",
         Sign::NoVote => "acts at the beat of the vote and has no lock, so makes no LOG",
-        Sign::Lock => "its lock, where the vote is for another log",
+        Sign::Lock => "its lock, where the vote below it is for another log",
         Sign::Grade => GRADE,
         Sign::Snapshot => "takes snapshot one (or two) of this view: those heard so far with one log each",
         Sign::Decision => "decides this log",
@@ -52,8 +53,9 @@ pub fn words(sign: Sign) -> &'static str {
         Sign::Forged => "the message bears a number that is not its teller's",
         Sign::Nobody => "nobody is handed it: none of those named begins the beat",
         Sign::Lost => "a message sent in this beat, where the broken line starts, never reaches the bench at the cross",
-        Sign::Late => "a message sent in this beat, where the broken line starts, reaches the bench at another beat",
+        Sign::Sent => SENT,
         Sign::Comes => "here it reaches the bench",
+        Sign::Passes => "passes on a LOG of bench 3: from here the broken line leads to those who do not get it as by default",
         Sign::Counted => COUNTED,
         Sign::Breach => "a premise fails here: the note of this number below the rows says which",
     }
@@ -71,11 +73,14 @@ const EQUIVOCATOR: &str = "from now on it knows bench 3 as an equivocator: two d
     this view where none is written)";
 
 const TOLD: &str =
-    "a rule-breaker hands a message (V a LOG, P a PROPOSAL; v0: of view 0, else of this view) to the benches at \
+    "a rule-breaker hands a message (a LOG, or P, a PROPOSAL; v0: of view 0, else of this view) to the benches at \
     the arrowheads of its line; a white arrowhead: refused there";
 
-const STORIES: &str = "two stories: different messages of one kind under one number in one view; hatching and line are those \
-    of the first, the second, any further one";
+const STORIES: &str = "two stories (1), (2): different messages of one kind under one number in one view; the number tells \
+    which story it is; hatching and line are those of the first, the second, any further one";
+
+const SENT: &str =
+    "a message to this bench: sent here, where the broken line starts, and comes at the beat that the sketch says";
 
 const COUNTED: &str = "the rule-keepers that count towards the majority of the view, 0, 1 and 2 (awake at its vote and at \
     snapshot two before it), to the rule-breakers: they must be more";

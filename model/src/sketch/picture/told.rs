@@ -1,6 +1,6 @@
 //! What the rule-breakers tell: each message a box in its teller's row, and a line from it to those that are handed it.
 use super::mark::{Cell, Mark, Sign};
-use super::words::{around, letter, message, of_view, priority, set};
+use super::words::{self, around, message, of_view, priority, set};
 use crate::history::message::{Kind, Log, Message};
 use crate::sketch::schedule::{Schedule, Tell};
 
@@ -50,7 +50,7 @@ fn marks(tell: &Tell, story: u8, of: usize) -> Cell {
     } = &tell.message;
     let sign = Sign::Told(story);
     let text = around(
-        &format!("{} ", letter(*kind)),
+        &format!("{} ", words::kind(*kind)),
         log,
         &format!("{}{}", of_view(*view, tell.beat), priority(&tell.message)),
         sign.room(),

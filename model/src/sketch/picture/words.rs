@@ -1,7 +1,7 @@
 //! Logs, sets and messages in few characters, and text cut or broken to the room there is.
 use crate::history::message::{Block, Kind, Message};
-use crate::sketch::words::block;
-pub use crate::sketch::words::log;
+use crate::sketch::words::{block, ranges};
+pub use crate::sketch::words::{counted, log};
 
 /// How many characters wide text is; what is not plain ASCII is reckoned twice as wide, but for the ellipsis.
 pub fn width(text: &str) -> usize {
@@ -73,40 +73,45 @@ pub fn log_within(blocks: &[Block], room: usize) -> String {
     shorter.find(|text| width(text) <= room).unwrap_or_else(|| cut(&whole, room))
 }
 
-/// Words around a log, in the room there is: the log gives way first.
+/// Words around a log, in the room there is: the log gives way, and what follows it only where no log would leave it room.
 pub fn around(before: &str, blocks: &[Block], after: &str, room: usize) -> String {
-    let left = room.saturating_sub(width(before) + width(after)).max(4);
+    let left = match room.saturating_sub(width(before) + width(after)) {
+        0 => 4,
+        left => left,
+    };
     cut(&format!("{before}{}{after}", log_within(blocks, left)), room)
 }
 
 /// Bench numbers, ascending, in braces; four or more in a row by the first and the last.
 pub fn set<'a>(numbers: impl IntoIterator<Item = &'a u8>) -> String {
-    format!("{{{}}}", list(numbers.into_iter().map(|&number| usize::from(number))))
+    set_within(numbers, usize::MAX)
 }
 
-/// Numbers, ascending; four or more in a row by the first and the last.
-pub fn list(numbers: impl IntoIterator<Item = usize>) -> String {
-    let mut rows: Vec<(usize, usize)> = vec![];
-    for number in numbers {
-        match rows.last_mut() {
-            Some((_, last)) if *last + 1 == number => *last = number,
-            _ => rows.push((number, number)),
-        }
+/// The same in the room there is.
+pub fn set_within<'a>(numbers: impl IntoIterator<Item = &'a u8>, room: usize) -> String {
+    let numbers = numbers.into_iter().map(|&number| usize::from(number));
+    format!("{{{}}}", list_within(numbers, room.saturating_sub(2)))
+}
+
+/// Numbers, ascending, with four or more in a row by the first and the last; cut between two of them where there is no room for
+/// all.
+pub fn list_within(numbers: impl IntoIterator<Item = usize>, room: usize) -> String {
+    let rows = ranges(numbers);
+    let whole = rows.join(",");
+    if width(&whole) <= room {
+        return whole;
     }
-    let row = |&(first, last): &(usize, usize)| match last - first {
-        0..=2 => (first..=last)
-            .map(|number| number.to_string())
-            .collect::<Vec<String>>()
-            .join(","),
-        _ => format!("{first}-{last}"),
-    };
-    rows.iter().map(row).collect::<Vec<String>>().join(",")
+    let starts = (1..rows.len()).rev().map(|kept| format!("{},…", rows[..kept].join(",")));
+    starts
+        .into_iter()
+        .find(|start| width(start) <= room)
+        .unwrap_or("…".to_string())
 }
 
-/// V for a vote, P for a proposal: a message's kind in one letter.
-pub fn letter(kind: Kind) -> &'static str {
+/// A message's kind as marks have it: the rules have V for a set of senders.
+pub fn kind(kind: Kind) -> &'static str {
     match kind {
-        Kind::Log => "V",
+        Kind::Log => "LOG",
         Kind::Proposal => "P",
     }
 }
@@ -137,14 +142,6 @@ pub fn message(message: &Message) -> String {
             "PROPOSAL {log} of view {view}, of bench {sender}, priority {}",
             message.priority
         ),
-    }
-}
-
-/// A number and its noun.
-pub fn counted(number: usize, one: &str, several: &str) -> String {
-    match number {
-        1 => format!("1 {one}"),
-        _ => format!("{number} {several}"),
     }
 }
 
@@ -189,7 +186,32 @@ mod tests {
         );
         assert_eq!([8, 6, 5].map(within), ["[… 13]", "[… 13]", "[10 …"]);
         assert_eq!(log_within(&blocks(&[1234567]), 5), "[123…");
-        assert_eq!(around("V ", &long, " of 3", 14), "V [… 13] of 3");
+        assert_eq!(around("P ", &long, " of 3", 14), "P [… 13] of 3");
+    }
+
+    #[test]
+    fn words_after_a_log_are_whole_where_they_have_room() {
+        let within = |room: usize| around("lost LOG ", &blocks(&[12, 13]), " of 31", room);
+        assert_eq!(
+            [22, 21, 18, 16].map(within),
+            [
+                "lost LOG [12 13] of 31",
+                "lost LOG [… 13] of 31",
+                "lost LOG [1… of 31",
+                "lost LOG … of 31"
+            ]
+        );
+        assert_eq!(around("P ", &blocks(&[77]), " p1234567890", 12), "P [77] p123…");
+    }
+
+    #[test]
+    fn a_list_is_cut_between_two_numbers() {
+        let within = |room: usize| list_within([1, 12, 13, 20, 21, 22, 23], room);
+        assert_eq!(
+            [13, 12, 9, 8, 4, 3, 1].map(within),
+            ["1,12,13,20-23", "1,12,13,…", "1,12,13,…", "1,12,…", "1,…", "1,…", "…"]
+        );
+        assert_eq!(set_within(&[1, 12, 14], 8), "{1,12,…}");
     }
 
     #[test]

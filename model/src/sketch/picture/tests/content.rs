@@ -40,7 +40,10 @@ fn told(story: &Story) -> Vec<String> {
 fn every_message_made_decision_and_snapshot_appears() {
     for (name, story) in stories::all() {
         let (seen, told) = (Seen::of(&story), told(&story));
-        assert!(told.len() >= 4 || matches!(name, "passed_on" | "least"), "{name}");
+        assert!(
+            told.len() >= 4 || matches!(name, "passed_on" | "breached" | "least"),
+            "{name}"
+        );
         let mut titles: Vec<&str> = seen.titles().collect();
         for words in told {
             let place = titles.iter().position(|title| title.starts_with(&words));
@@ -49,7 +52,7 @@ fn every_message_made_decision_and_snapshot_appears() {
     }
 }
 
-/// The legend shows one of each, and two boxes with a V.
+/// The legend shows one of each, and two boxes with a LOG.
 #[test]
 fn each_mark_is_written_once_for_each_thing() {
     for (name, story) in [("small", small()), ("large", large())] {
@@ -59,7 +62,7 @@ fn each_mark_is_written_once_for_each_thing() {
         let snapshots = seen.count("one {") + seen.count("two {");
         assert_eq!(snapshots, 1 + number(|act| act.snapshot.is_some()), "{name}");
         let votes = number(|act| act.made.as_ref().is_some_and(|made| made.kind == Kind::Log));
-        assert_eq!(seen.count("V ["), 2 + votes + story.schedule.tells.len(), "{name}");
+        assert_eq!(seen.count("LOG ["), 2 + votes + story.schedule.tells.len(), "{name}");
     }
 }
 
@@ -103,7 +106,11 @@ fn presence_is_a_bar_a_hatched_bar_or_a_dotted_line() {
 #[test]
 fn two_stories_are_two_hatchings_two_lines_and_words() {
     let seen = Seen::of(&small());
-    assert_eq!((seen.count("two stories (1)"), seen.count("two stories (2)")), (2, 2));
+    assert_eq!(
+        (seen.count("two stories (1)"), seen.count("two stories (2)")),
+        (2 + 1, 2),
+        "and in the legend"
+    );
     let (solid, dashed): (Vec<_>, Vec<_>) = seen
         .drawn("polyline", &[])
         .into_iter()
@@ -177,7 +184,7 @@ fn what_is_odd_is_written_too() {
         "E {0,4}",
         "DECIDES []",
         "stands [5]",
-        "V [2] v7",
+        "LOG [2] v7",
     ];
     assert_eq!(words.map(|words| seen.count(words)), [1; 7]);
     let white = seen.drawn("polygon", &[("fill", "#fff"), ("stroke", "#000")]);
@@ -191,7 +198,7 @@ fn what_is_cut_is_whole_when_pointed_at() {
     assert!(seen.titles().any(|title| title.contains(&whole)));
     assert!(seen.texts().all(|text| !text.contains(&whole)));
     assert_eq!(
-        (seen.count("V [1844674407…"), seen.count("V [184467440737…")),
+        (seen.count("LOG [18446744…"), seen.count("LOG [1844674407…")),
         (1, 1),
         "told and voted"
     );

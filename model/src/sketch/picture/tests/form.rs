@@ -136,7 +136,7 @@ fn letters_are_large_enough_and_colours_are_greys_and_one_red() {
                 assert!(grey || hatched || colour == "#c00", "{name}: {element:?}");
             }
         }
-        let wrong = matches!(name, "mistaken" | "withheld" | "odd" | "across");
+        let wrong = matches!(name, "mistaken" | "withheld" | "odd" | "across" | "breached");
         assert_eq!(
             red, wrong,
             "{name}: red where there is a conflict or a breach, and only there"

@@ -2,7 +2,7 @@
 use super::builder::{log, present, schedule, story, tell, Play};
 pub use super::large::large;
 pub use super::odd::odd;
-pub use super::troubled::{across, passed_on, withheld};
+pub use super::troubled::{across, breached, passed_on, withheld};
 use crate::history::bench::{Rules, Word};
 use crate::sketch::story::Story;
 use crate::volume::messages::{proposal, vote};
@@ -111,6 +111,7 @@ pub fn all() -> Vec<(&'static str, Story)> {
         ("large", large()),
         ("passed_on", passed_on()),
         ("across", across()),
+        ("breached", breached()),
         ("least", least()),
     ]
 }

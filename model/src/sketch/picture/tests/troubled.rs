@@ -54,19 +54,43 @@ fn hears_itself_alone(play: &mut Play, own: u8, name: u64) {
     play.snapshot(&[own], 7, &[0, 1]);
 }
 
-/// A rule-breaker tells two of three its LOG. Passed on, it never reaches the third; the second, named too, has it already.
+/// A rule-breaker tells two of four its LOG. Passed on, it never reaches the third and the fourth at a later beat; the second,
+/// named too, has it already.
 pub fn passed_on() -> Story {
-    let mut schedule = schedule("What a rule-breaker told is passed on and lost", 4, 3, [0, 3]);
-    tell(&mut schedule, 2, &[0, 1], vote(3, 0, log(&[7])));
-    schedule.fates = vec![Fate {
+    let mut schedule = schedule("What a rule-breaker told is passed on and lost", 32, 4, [0, 3]);
+    tell(&mut schedule, 2, &[0, 1], vote(31, 0, log(&[7])));
+    let fate = |to: &[u8], at: Option<u32>| Fate {
         kind: Kind::Log,
         view: 0,
-        sender: 3,
+        sender: 31,
         log: Some(log(&[7])),
-        to: vec![1, 2],
-        at: None,
-    }];
+        to: to.to_vec(),
+        at,
+    };
+    schedule.fates = vec![fate(&[1, 2], None), fate(&[3], Some(3))];
     let play = Play::new(&schedule, Rules::Paper);
+    story(schedule, vec![play])
+}
+
+/// Bench 0 passes on LOGs of many numbers in one beat. Each of the two others has every second one of them, and never gets the
+/// rest.
+pub fn breached() -> Story {
+    let mut schedule = schedule("Many LOGs are lost", 16, 3, [0, 4]);
+    for sender in 3..15 {
+        tell(&mut schedule, 2, &[0, 1 + sender % 2], vote(sender, 0, log(&[7])));
+    }
+    let mut play = Play::new(&schedule, Rules::Paper);
+    for to in [1, 2] {
+        let (from, beat, view, due) = (0, 2, 0, 3);
+        play.run.breaches.push(Breach::Delivery {
+            from,
+            beat,
+            to,
+            due,
+            view,
+        });
+    }
+    play.run.counted = vec![(0, vec![0, 1, 2])];
     story(schedule, vec![play])
 }
 

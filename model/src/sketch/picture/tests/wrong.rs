@@ -1,9 +1,9 @@
 //! That conflicts, breaches and what goes astray are in the picture, and seen without colours too.
 use super::seen::Seen;
-use super::stories::{across, least, mistaken, odd, passed_on, withheld};
+use super::stories::{across, breached, least, mistaken, odd, passed_on, withheld};
 use super::xml::Element;
 use crate::history::bench::Rules;
-use crate::volume::premises::Breach;
+use crate::sketch::story::Story;
 
 const THICK_RED: [(&str, &str); 2] = [("stroke", "#c00"), ("stroke-width", "3")];
 
@@ -14,7 +14,7 @@ fn a_conflict_is_red_and_thick_and_said_in_words() {
     assert_eq!(frames.len(), 6 + 1 + 1, "six decisions, the verdict, the legend");
     assert_eq!(lines.len(), 1 + 1, "one, and one in the legend");
     let words =
-        "CONFLICT: bench 0 decides [5] at beat 6, and bench 0 decides [6 7] at beat 10; neither log starts with the other.";
+        "CONFLICT, two histories: bench 0 decides [5] at beat 6, and bench 0 decides [6 7] at beat 10; neither log starts with the other.";
     assert_eq!((seen.count("CONFLICT"), seen.count(words)), (6 + 1 + 1, 1));
     assert_eq!(
         seen.drawn("line", &[("stroke", "#c00"), ("stroke-width", "2")]).len(),
@@ -70,10 +70,13 @@ fn each_mistake_has_a_heading_that_says_it() {
 
 #[test]
 fn every_breach_is_noted_and_marked() {
-    let (seen, story) = (Seen::of(&withheld()), withheld());
-    for (place, breach) in story.runs[0].breaches.iter().enumerate() {
-        assert_eq!(seen.count(&format!("BREACH {} of a premise, {breach}", place + 1)), 1);
-    }
+    let seen = Seen::of(&withheld());
+    let notes: Vec<&str> = seen.texts().filter(|text| text.contains("of the premise")).collect();
+    let expected = [
+        "BREACH 1 of the premise on delivery: LOG v0 of 0 [5], made by 0 at beat 1, was not with 1 by its act at beat 2",
+        "BREACH 2 of the premise on delivery: LOG v0 of 1 [6], made by 1 at beat 1, was not with 0 by its act at beat 2",
+    ];
+    assert_eq!(notes, expected);
     let marks: Vec<&str> = seen
         .texts()
         .filter(|text| text.starts_with("BREACH") && text.len() == 8)
@@ -90,17 +93,12 @@ fn every_breach_is_noted_and_marked() {
 /// A million views before the first one shown are one note.
 #[test]
 fn breaches_of_all_premises_are_noted_and_alike_ones_together() {
-    let (seen, story) = (Seen::of(&odd()), odd());
-    let notes: Vec<&str> = seen.texts().filter(|text| text.contains("of a premise")).collect();
-    let [first, second, last] = [0, 1, 1_000_001].map(|place: usize| &story.runs[0].breaches[place]);
-    assert!(matches!(
-        (first, second),
-        (Breach::Numbers { .. }, Breach::Majority { view: 0, .. })
-    ));
+    let seen = Seen::of(&odd());
+    let notes: Vec<&str> = seen.texts().filter(|text| text.contains("of the premise")).collect();
     let expected = [
-        format!("BREACH 1 of a premise, {first}"),
-        format!("BREACH 2 of a premise, {second}, and so has each view to view 999999"),
-        format!("BREACH 3 of a premise, {last}"),
+        "BREACH 1 of the premise on numbers: bench 0 took LOG v1000000 of 1 [1 2 3 4 5 6 7 8 9*0] at beat 4000002, which bench 1 never made",
+        "BREACH 2 of the premise on the majority: in views 0 to 999999 nobody counts (awake at 4v-1 and 4v+1, in view 0 at 1), against 3 rule-breakers",
+        "BREACH 3 of the premise on the majority: in view 1000000 only {0,1} count (awake at beats 3999999 and 4000001), against 3 rule-breakers",
     ];
     assert_eq!(notes, expected);
     let marks: Vec<&str> = seen
@@ -115,12 +113,44 @@ fn breaches_of_all_premises_are_noted_and_alike_ones_together() {
 }
 
 #[test]
-fn what_is_lost_has_a_cross_and_what_is_late_a_circle() {
+fn the_mark_of_many_breaches_is_cut_between_two_numbers() {
+    let seen = Seen::of(&breached());
+    let marks: Vec<&str> = seen
+        .texts()
+        .filter(|text| text.starts_with("BREACH") && !text.contains("premise"))
+        .collect();
+    assert_eq!(
+        marks,
+        ["BREACH 1,3,5,…", "BREACH 2,4,6,…", "BREACH 1"],
+        "at benches 1 and 2, in the legend"
+    );
+}
+
+#[test]
+fn below_the_verdict_stands_what_demand_3_says() {
+    let said = |story: &Story| {
+        let seen = Seen::of(story);
+        let texts: Vec<String> = seen.texts().map(str::to_string).collect();
+        let verdict = |text: &String| text.starts_with("No two decided") || text.starts_with("CONFLICT, two");
+        let places = (0..texts.len()).filter(|&place| verdict(&texts[place]));
+        places.map(|place| texts[place + 1..place + 3].to_vec()).collect::<Vec<_>>()
+    };
+    let (of_mistaken, of_least) = (said(&mistaken()), said(&least()));
+    assert_eq!(of_mistaken[0][0], "The premises hold, so demand 3 promises this.");
+    assert_eq!(of_mistaken[1][0], "The premises hold: the mistake alone did this.");
+    assert_eq!(
+        of_least,
+        [["Nothing was decided.", "The premises hold, so demand 3 promises this."]]
+    );
+}
+
+#[test]
+fn what_is_lost_has_a_cross_and_what_comes_when_the_sketch_says_a_circle() {
     let seen = Seen::of(&withheld());
-    let words = ["lost V [5] of 0", "late V [6] of 1", "comes V [6] of 1"];
+    let words = ["lost LOG [5] of 0", "sent LOG [6] of 1", "comes LOG [6] of 1", "passes on"];
     assert_eq!(
         words.map(|words| seen.count(words)),
-        [1 + 1, 1, 1],
+        [1 + 1, 1, 1, 0],
         "the legend has the first"
     );
     assert_eq!(seen.drawn("polyline", &[("stroke-dasharray", "4 4")]).len(), 2);
@@ -135,9 +165,27 @@ fn what_is_lost_has_a_cross_and_what_is_late_a_circle() {
     assert_eq!((circles("#fff"), circles("#000")), (1 + 1, 1 + 1));
 }
 
+/// Bench 0 passes on a LOG that bench 2 never gets and bench 3 at a beat that is named; bench 1 has it from the rule-breaker.
 #[test]
-fn what_a_rule_breaker_told_and_is_lost_on_its_way_is_missed_by_those_who_have_it_not() {
+fn what_is_passed_on_and_goes_astray_says_so_once_where_its_lines_start() {
     let seen = Seen::of(&passed_on());
-    assert_eq!(seen.count("lost V [7] of 3"), 1, "bench 1 has it from the rule-breaker");
-    assert_eq!(seen.drawn("polyline", &[("stroke-dasharray", "4 4")]).len(), 1);
+    let counts = ["lost LOG [7] of 31", "sent LOG [7] of 31", "passes on LOG [7] of 31"].map(|words| seen.count(words));
+    assert_eq!(counts, [1, 1, 1]);
+    let lines = seen.drawn("polyline", &[("stroke-dasharray", "4 4")]);
+    assert_eq!(lines.len(), 2);
+    let mark = seen.elements.iter().find(|element| element.text == "passes on LOG [7] of 31");
+    let mark = mark.expect("counted above");
+    for line in lines {
+        let start = line.attributes["points"]
+            .split(' ')
+            .next()
+            .and_then(|point| point.split_once(','));
+        let (x, y) = start.expect("a point");
+        assert_eq!(x.parse(), Ok(mark.number("x") - 5));
+        assert!(
+            y.parse::<i32>()
+                .is_ok_and(|y| (mark.number("y") - 11..mark.number("y")).contains(&y)),
+            "{y}"
+        );
+    }
 }
