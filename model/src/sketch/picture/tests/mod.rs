@@ -4,6 +4,7 @@ mod content;
 mod form;
 mod large;
 mod odd;
+mod order;
 mod seen;
 mod stories;
 mod troubled;
