@@ -1,5 +1,5 @@
-//! What of the rule-keepers' messages is lost, or comes at a beat that the schedule names: a broken line from where the message is
-//! sent to those it does not reach by default, and a word at both ends.
+//! What of the rule-keepers' messages is lost, or comes at a beat that the schedule names: a broken line from where the message
+//! is sent to those it does not reach by default, and a word at both ends.
 use super::mark::{Cell, Here, Mark, Sign};
 use super::words::{around, kind, message};
 use crate::history::message::{Log, Message};

@@ -18,8 +18,8 @@ const GENERAL: &str = "A log is written by the names of its blocks, the oldest f
     block 6 with three, [] is the empty log. Where a text is cut (…), point at it to read it whole. GA v is the agreement of \
     view v. In a rule-keeper's cell stand, from the top down: that it is not awake; what comes to it and what it learns in its \
     gathering; what it passes on, where a broken line starts; the grade that its act reads, its lock, what it makes, what it \
-    decides and the snapshot it takes; what others send it in this beat, where a broken line ends; where a premise fails. What a \
-    rule-keeper makes or passes on comes to each other one in the next beat at which that one is awake; it is drawn only where \
+    decides and the snapshot it takes; what others send it in this beat, where a broken line ends; where a premise fails. What \
+    a rule-keeper makes or passes on comes to each other one in the next beat at which that one is awake; it is drawn only where \
     it is lost, or comes at a beat that the sketch says.";
 
 /// Draws the legend from `top` down, in as many columns as there is width for, and says where it ends.

@@ -13,8 +13,8 @@ fn a_conflict_is_red_and_thick_and_said_in_words() {
     let (frames, lines) = (seen.drawn("rect", &THICK_RED), seen.drawn("polyline", &THICK_RED));
     assert_eq!(frames.len(), 6 + 1 + 1, "six decisions, the verdict, the legend");
     assert_eq!(lines.len(), 1 + 1, "one, and one in the legend");
-    let words =
-        "CONFLICT, two histories: bench 0 decides [5] at beat 6, and bench 0 decides [6 7] at beat 10; neither log starts with the other.";
+    let words = "CONFLICT, two histories: bench 0 decides [5] at beat 6, and bench 0 decides [6 7] at beat 10; neither log \
+         starts with the other.";
     assert_eq!((seen.count("CONFLICT"), seen.count(words)), (6 + 1 + 1, 1));
     assert_eq!(
         seen.drawn("line", &[("stroke", "#c00"), ("stroke-width", "2")]).len(),
@@ -96,9 +96,12 @@ fn breaches_of_all_premises_are_noted_and_alike_ones_together() {
     let seen = Seen::of(&odd());
     let notes: Vec<&str> = seen.texts().filter(|text| text.contains("of the premise")).collect();
     let expected = [
-        "BREACH 1 of the premise on numbers: bench 0 took LOG v1000000 of 1 [1 2 3 4 5 6 7 8 9*0] at beat 4000002, which bench 1 never made",
-        "BREACH 2 of the premise on the majority: in views 0 to 999999 nobody counts (awake at 4v-1 and 4v+1, in view 0 at 1), against 3 rule-breakers",
-        "BREACH 3 of the premise on the majority: in view 1000000 only {0,1} count (awake at beats 3999999 and 4000001), against 3 rule-breakers",
+        "BREACH 1 of the premise on numbers: bench 0 took LOG v1000000 of 1 [1 2 3 4 5 6 7 8 9*0] at beat 4000002, \
+         which bench 1 never made",
+        "BREACH 2 of the premise on the majority: in views 0 to 999999 nobody counts (awake at 4v-1 and 4v+1, in view 0 \
+         at 1), against 3 rule-breakers",
+        "BREACH 3 of the premise on the majority: in view 1000000 only {0,1} count (awake at beats 3999999 and \
+         4000001), against 3 rule-breakers",
     ];
     assert_eq!(notes, expected);
     let marks: Vec<&str> = seen
