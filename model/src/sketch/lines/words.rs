@@ -1,7 +1,7 @@
 //! Words for numbers, logs and messages.
 use crate::history::message::{Block, Kind, Message};
 use crate::sketch::schedule::Fate;
-pub use crate::sketch::words::{block, log, rules};
+pub use crate::sketch::words::{block, counted, log, rules};
 
 /// A log within a sentence.
 pub fn log_or_empty(blocks: &[Block]) -> String {
@@ -24,11 +24,6 @@ pub fn numbers_or_nobody<'a>(these: impl IntoIterator<Item = &'a u8>) -> String 
         return "nobody".to_string();
     }
     row
-}
-
-/// `1 bench`, `2 benches`.
-pub fn counted(count: usize, one: &str, more: &str) -> String {
-    format!("{count} {}", if count == 1 { one } else { more })
 }
 
 /// `beat 4`, `beats 4 to 6`.
