@@ -97,8 +97,9 @@ pub extern "C" fn cervakho_roll_page(
 
 // The message that event number `event` of a roll made, at the front of the lent buffer, and its length. The buffer is the Act's
 // outgoing buffer; where nothing was made it is left as it was, and the answer is 0. The lists stand before the tests: behind them,
-// rattle-kit-5b compiled the function wrong for the static library, as its stack check overwrote a register in use. In C: size_t
-// cervakho_roll_made(const uint8_t *roll, size_t roll_length, size_t event, uint8_t *out, size_t out_length).
+// rattle-kit-5b-plain compiled the function wrong for the static library, as its stack check overwrote a register in use
+// (docs/DECISIONS.md, "Sketches"). In C: size_t cervakho_roll_made(const uint8_t *roll, size_t roll_length, size_t event, uint8_t
+// *out, size_t out_length).
 #[no_mangle]
 pub extern "C" fn cervakho_roll_made(roll: &[u8], event: usize, out: &mut [u8]) -> usize
     ensures { λ r. ⌜ GivesMade (madeOf (now (roll .entry)) event (now (out .entry))) (now (out .entry)) r (now (out .exit)) ⌝ }
