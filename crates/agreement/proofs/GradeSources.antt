@@ -13,7 +13,7 @@ use Rattle.message.specs.Logs.{Log, Prefix, sameLog}
 use Rattle.message.specs.Message.{Content}
 use Rattle.message.proofs.TestLaws.{either}
 use Rattle.message.proofs.LogLaws.{prefix-refl, isPrefix-iff}
-use Rattle.agreement.specs.Sets.{ones, Inside}
+use Rattle.agreement.specs.Sets.{Inside}
 use Rattle.agreement.specs.Reading.{maySupport, longest}
 use Rattle.agreement.specs.Kept.{Kept, nothing, only, differing, heardOf, singleOf, Proposed, sameProposal}
 use Rattle.agreement.specs.Heard.{someDiffers, keptOf, logsFrom, heardLogs, onlyLog, readingFrom, gradeNow, gradeWith, ProposalHeard, proposalsFrom, heardProposals, mayChoose, priorityOf, proposedLog, orLock, voteAmong}
@@ -42,15 +42,15 @@ single-only nothing e = absurd (false≢true e)
 single-only (only L) e = refl
 single-only differing e = absurd (false≢true e)
 
-module _ (n : ℕ) (logs : ℕ → Kept Log) where
+module _ (n : ℕ) (w : ℕ → ℕ) (logs : ℕ → Kept Log) where
   -- everyone who may support is heard
   pub reading-heard : (snap : ℕ → Bool) → Inside n (maySupport (readingFrom logs snap)) (readingFrom logs snap .heard)
   reading-heard snap i l e = single-heard (logs i) (may-iff (readingFrom logs snap) i .0 e .0)
 
-  longest-source : (snap : ℕ → Bool) (L : Log) → longest n ones (readingFrom logs snap) ≡ some L → GradeSource n logs L
+  longest-source : (snap : ℕ → Bool) (L : Log) → longest n w (readingFrom logs snap) ≡ some L → GradeSource n logs L
   longest-source snap L e =
       let R = readingFrom logs snap in
-      let s = grade-supporter n ones R L (longest-iff n ones R (reading-heard snap) (some L) .0 e .grade) in
+      let s = grade-supporter n w R L (longest-iff n w R (reading-heard snap) (some L) .0 e .grade) in
       record {
         sender = s .sender;
         below = s .below;
@@ -59,11 +59,11 @@ module _ (n : ℕ) (logs : ℕ → Kept Log) where
         extends = s .extends;
       }
 
-  pub gradeNow-source : (L : Log) → gradeNow n logs ≡ some L → GradeSource n logs L
+  pub gradeNow-source : (L : Log) → gradeNow n w logs ≡ some L → GradeSource n logs L
   unfolding gradeNow
   gradeNow-source L e = longest-source (λ (s : ℕ). singleOf (logs s)) L e
 
-  pub gradeWith-source : (o : Option (ℕ → Bool)) (L : Log) → gradeWith n logs o ≡ some L → GradeSource n logs L
+  pub gradeWith-source : (o : Option (ℕ → Bool)) (L : Log) → gradeWith n w logs o ≡ some L → GradeSource n logs L
   unfolding gradeWith
   gradeWith-source none L e = absurd (Option·none-ne-some L e)
   gradeWith-source (some snap) L e = longest-source snap L e

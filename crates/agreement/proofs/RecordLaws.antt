@@ -94,28 +94,28 @@ module _ (n : ℕ) (names counts : List ℕ) (base : ℕ) (g : Agreement) (w : W
         ∙ longest-cong n ones (alike among snap s))
 
     -- grade 0 uses no snapshot
-    pub grade-zero : gradeZero names counts base g ≡ gradeNow n (keptLog names counts base g)
+    pub grade-zero : gradeZero names counts base g ≡ gradeNow n ones (keptLog names counts base g)
     unfolding gradeNow
     grade-zero =
         let f = w .few in
         grade-among (g .voters) (λ (i : ℕ). singleOf (keptLog names counts base g i)) (λ i l. kept-voter names counts base g i (not-both i (omega arith)))
 
     grade-with : (has : Bool) (among : List Bool)
-        → pick has (gradeAmong names counts base g among) none ≡ gradeWith n (keptLog names counts base g) (pick has (some (member among)) none)
+        → pick has (gradeAmong names counts base g among) none ≡ gradeWith n ones (keptLog names counts base g) (pick has (some (member among)) none)
     unfolding gradeWith
     grade-with true among = grade-among among (member among) (λ i l. refl)
     grade-with false among = refl
 
     -- grades 1 and 2 are there only with their snapshots
-    pub grade-one : gradeOne names counts base g ≡ gradeWith n (keptLog names counts base g) (pick (g .hastwo) (some (member (g .two))) none)
+    pub grade-one : gradeOne names counts base g ≡ gradeWith n ones (keptLog names counts base g) (pick (g .hastwo) (some (member (g .two))) none)
     grade-one = grade-with (g .hastwo) (g .two)
 
-    pub grade-two : gradeTwo names counts base g ≡ gradeWith n (keptLog names counts base g) (pick (g .hasone) (some (member (g .one))) none)
+    pub grade-two : gradeTwo names counts base g ≡ gradeWith n ones (keptLog names counts base g) (pick (g .hasone) (some (member (g .one))) none)
     grade-two = grade-with (g .hasone) (g .one)
 
 -- ---- a grade depends on what is kept of the senders below n, and on the snapshot below n
 
-module _ (n : ℕ) (logs logs′ : ℕ → Kept Log) (h : (i : ℕ) → i < n → logs i ≡ logs′ i) where
+module _ (n : ℕ) (w : ℕ → ℕ) (logs logs′ : ℕ → Kept Log) (h : (i : ℕ) → i < n → logs i ≡ logs′ i) where
   reading-alike : (snap snap′ : ℕ → Bool) → ((i : ℕ) → i < n → snap i ≡ snap′ i) → Alike n (readingFrom logs snap) (readingFrom logs′ snap′)
   reading-alike snap snap′ s = record {
     heard = λ i l. ap heardOf (h i l);
@@ -124,16 +124,16 @@ module _ (n : ℕ) (logs logs′ : ℕ → Kept Log) (h : (i : ℕ) → i < n �
     log = λ i l v. ap onlyLog (h i l);
   }
 
-  pub gradeNow-cong : gradeNow n logs ≡ gradeNow n logs′
+  pub gradeNow-cong : gradeNow n w logs ≡ gradeNow n w logs′
   unfolding gradeNow
   gradeNow-cong =
-      longest-cong n ones
+      longest-cong n w
       (reading-alike (λ (i : ℕ). singleOf (logs i)) (λ (i : ℕ). singleOf (logs′ i)) (λ i l. ap singleOf (h i l)))
 
-  pub gradeWith-cong : (o : Option (ℕ → Bool)) → gradeWith n logs o ≡ gradeWith n logs′ o
+  pub gradeWith-cong : (o : Option (ℕ → Bool)) → gradeWith n w logs o ≡ gradeWith n w logs′ o
   unfolding gradeWith
   gradeWith-cong none = refl
-  gradeWith-cong (some snap) = longest-cong n ones (reading-alike snap snap (λ i l. refl))
+  gradeWith-cong (some snap) = longest-cong n w (reading-alike snap snap (λ i l. refl))
 
 -- ---- the best sender, by who passes below n and by the priorities of those that pass
 

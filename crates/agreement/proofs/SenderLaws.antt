@@ -13,7 +13,6 @@ use Rattle.message.specs.Logs.{Log, sameLog}
 use Rattle.message.specs.Message.{Content}
 use Rattle.message.proofs.TestLaws.{either, or-false}
 use Rattle.message.proofs.LogLaws.{sameLog-iff}
-use Rattle.agreement.specs.Sets.{ones}
 use Rattle.agreement.specs.Reading.{Grade, LongestLog, longest}
 use Rattle.agreement.specs.Filing.{first, second}
 use Rattle.agreement.specs.Kept.{Kept, only, differing, wordOn, heardOf, singleOf}
@@ -156,17 +155,17 @@ module _ (heard : List Content) (v s : ℕ) (P : Log → Type 0) (status : Statu
 -- ---- a grade with its snapshot
 
 -- the log given is the longest of the reading
-pub grade-longest : (n : ℕ) (logs : ℕ → Kept Log) (among : ℕ → Bool) (L : Log) → gradeWith n logs (some among) ≡ some L
-    → LongestLog n ones (readingFrom logs among) L
+pub grade-longest : (n : ℕ) (w : ℕ → ℕ) (logs : ℕ → Kept Log) (among : ℕ → Bool) (L : Log) → gradeWith n w logs (some among) ≡ some L
+    → LongestLog n w (readingFrom logs among) L
 unfolding gradeWith
-grade-longest n logs among L e = longest-iff n ones (readingFrom logs among) (reading-heard n logs among) (some L) .0 e
+grade-longest n w logs among L e = longest-iff n w (readingFrom logs among) (reading-heard n w logs among) (some L) .0 e
 
 -- where some log has the grade, one is given
-pub grade-some : (n : ℕ) (logs : ℕ → Kept Log) (among : ℕ → Bool) (K : Log) → Grade n ones (readingFrom logs among) K
-    → (L : Log) × (gradeWith n logs (some among) ≡ some L)
+pub grade-some : (n : ℕ) (w : ℕ → ℕ) (logs : ℕ → Kept Log) (among : ℕ → Bool) (K : Log) → Grade n w (readingFrom logs among) K
+    → (L : Log) × (gradeWith n w logs (some among) ≡ some L)
 unfolding gradeWith
-grade-some n logs among K g = go (longest n ones (readingFrom logs among)) refl
+grade-some n w logs among K g = go (longest n w (readingFrom logs among)) refl
   where
-    go : (o : Option Log) → longest n ones (readingFrom logs among) ≡ o → (L : Log) × (longest n ones (readingFrom logs among) ≡ some L)
-    go none e = absurd (longest-none-iff n ones (readingFrom logs among) .0 e K g)
+    go : (o : Option Log) → longest n w (readingFrom logs among) ≡ o → (L : Log) × (longest n w (readingFrom logs among) ≡ some L)
+    go none e = absurd (longest-none-iff n w (readingFrom logs among) .0 e K g)
     go (some L) e = (L, e)

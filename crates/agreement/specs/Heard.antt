@@ -8,7 +8,6 @@ use lib.Dec.{eqb}
 use Rattle.message.specs.Choice.{pick}
 use Rattle.message.specs.Logs.{Log, isPrefix, sameLog}
 use Rattle.message.specs.Message.{Content}
-use Rattle.agreement.specs.Sets.{ones}
 use Rattle.agreement.specs.Reading.{Reading, longest}
 use Rattle.agreement.specs.Kept.{Kept, nothing, only, differing, heardOf, singleOf, Proposed, sameProposal}
 use Rattle.agreement.specs.Proposals.{bestOf}
@@ -55,14 +54,14 @@ readingFrom logs among = record {
   log = λ (s : ℕ). onlyLog (logs s);
 }
 
--- Of n benches, each counted once. Grade 0 reads no snapshot, so V as it is now.
-unfoldable pub gradeNow : ℕ → (ℕ → Kept Log) → Option Log
-gradeNow n logs = longest n ones (readingFrom logs (votersOf logs))
+-- Of n benches, each with its weight w. Grade 0 reads no snapshot, so V as it is now.
+unfoldable pub gradeNow : ℕ → (ℕ → ℕ) → (ℕ → Kept Log) → Option Log
+gradeNow n w logs = longest n w (readingFrom logs (votersOf logs))
 
 -- Grades 1 and 2: "only with" their snapshot, which may be of nobody.
-unfoldable pub gradeWith : ℕ → (ℕ → Kept Log) → Option (ℕ → Bool) → Option Log
-gradeWith n logs none = none
-gradeWith n logs (some snapshot) = longest n ones (readingFrom logs snapshot)
+unfoldable pub gradeWith : ℕ → (ℕ → ℕ) → (ℕ → Kept Log) → Option (ℕ → Bool) → Option Log
+gradeWith n w logs none = none
+gradeWith n w logs (some snapshot) = longest n w (readingFrom logs snapshot)
 
 -- ---- PROPOSALs
 

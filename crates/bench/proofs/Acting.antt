@@ -14,6 +14,7 @@ use Rattle.message.specs.Store.{logAt}
 use Rattle.message.proofs.TestLaws.{either}
 use Rattle.message.proofs.Codec.{read-written}
 use Rattle.agreement.specs.Record.{withOne, withTwo}
+use Rattle.bench.specs.Terms.{Seat}
 use Rattle.bench.specs.Layout.{decidedPlace, mostBytes}
 use Rattle.bench.specs.Calendar.{lastView, viewBeat, inputBeat, snapshotOneBeat, snapshotTwoBeat, closeBeat, viewOf, placeIn, actAt}
 use Rattle.bench.specs.Calls.{act, acted, openTo, Typed, State}
@@ -84,7 +85,7 @@ unfolding candidateOf lockOf decisionOf agreementOf proposalsOf
 over-seen s zero = refl
 over-seen s (suc u) = refl
 
-module _ (n own : ℕ) (s : State) (p : History) (t : Tie n own s p) (busy : p .gathering ≡ true) where
+module _ (S : Seat) (s : State) (p : History) (t : Tie S s p) (busy : p .gathering ≡ true) where
   abbrev beat : ℕ
   beat = beatOf (s .bench)
 
@@ -98,8 +99,8 @@ module _ (n own : ℕ) (s : State) (p : History) (t : Tie n own s p) (busy : p .
 
   module _ (made : Option Meaning) (d : Option Log) where
     -- a settled state whose agreements alone changed since
-    rest-tie : {x : State} {c : Bench} → Settled n own s p d x → SameBesides (x .bench) c → Fine c → Filled c (x .lent) (closed p made d)
-        → Tie n own (record { bench = c; lent = x .lent }) (closed p made d)
+    rest-tie : {x : State} {c : Bench} → Settled S s p d x → SameBesides (x .bench) c → Fine c → Filled c (x .lent) (closed p made d)
+        → Tie S (record { bench = c; lent = x .lent }) (closed p made d)
     unfolding standIn
     rest-tie {x} {c} w r f h =
         let e = r .decided in
@@ -117,13 +118,13 @@ module _ (n own : ℕ) (s : State) (p : History) (t : Tie n own s p) (busy : p .
           good = record { heard = t .good .heard; proposals = t .good .proposals; priorities = t .good .priorities };
         }
 
-    settled-tie : {x : State} → Settled n own s p d x → ((u : ℕ) → u ≤ lastView → (beat ≡ snapshotOneBeat u → ⊥) × (beat ≡ snapshotTwoBeat u → ⊥)) → Tie n own x (closed p made d)
+    settled-tie : {x : State} → Settled S s p d x → ((u : ℕ) → u ≤ lastView → (beat ≡ snapshotOneBeat u → ⊥) × (beat ≡ snapshotTwoBeat u → ⊥)) → Tie S x (closed p made d)
     settled-tie {x} w quiet =
         rest-tie w (record { n = refl; own = refl; next = refl; gathering = refl; proposals = refl; decided = refl; parted = refl }) (w .fine)
         (quiet-filled p made d beat now (w .next-is ∙ next) (w .fine) (w .filled) quiet)
 
     -- snapshot one of view v, or none after the last view
-    one-tie : {x : State} (v : ℕ) → Settled n own s p d x → beat ≡ snapshotOneBeat v → Tie n own (snappedOne v x) (closed p made d)
+    one-tie : {x : State} (v : ℕ) → Settled S s p d x → beat ≡ snapshotOneBeat v → Tie S (snappedOne v x) (closed p made d)
     unfolding snappedOne
     one-tie {x} v w e =
         let nx = w .next-is ∙ next in
@@ -137,7 +138,7 @@ module _ (n own : ℕ) (s : State) (p : History) (t : Tie n own s p) (busy : p .
         (one-filled p made d beat now nx (w .fine) (w .filled) v low (omega arith) (omega arith) e)))
         (λ i. let high = leb-false v lastView i in rw i (settled-tie w (λ u l. ((λ z. omega arith), (λ z. omega arith)))))
 
-    two-tie : {x : State} (v : ℕ) → Settled n own s p d x → beat ≡ snapshotTwoBeat v → Tie n own (snappedTwo v x) (closed p made d)
+    two-tie : {x : State} (v : ℕ) → Settled S s p d x → beat ≡ snapshotTwoBeat v → Tie S (snappedTwo v x) (closed p made d)
     unfolding snappedTwo
     two-tie {x} v w e =
         let nx = w .next-is ∙ next in
@@ -153,11 +154,11 @@ module _ (n own : ℕ) (s : State) (p : History) (t : Tie n own s p) (busy : p .
 
   -- by the rows of the calendar
   changed-tie : (made : Option Meaning) (v r : ℕ) → viewOf beat ≡ v → placeIn beat ≡ r → ((L : Log) → decides (seenOf (over s) v) (actAt r) ≡ some L → GoodLog L)
-      → Tie n own (changed (over s) v (actAt r)) (closed p made (decides (seenOf (over s) v) (actAt r)))
+      → Tie S (changed (over s) v (actAt r)) (closed p made (decides (seenOf (over s) v) (actAt r)))
   unfolding changed
-  changed-tie made v r ev er good = snap r er (decision-settled n own s p t (decides (seenOf (over s) v) (actAt r)) good)
+  changed-tie made v r ev er good = snap r er (decision-settled S s p t (decides (seenOf (over s) v) (actAt r)) good)
     where
-      snap : (k : ℕ) → placeIn beat ≡ k → {d : Option Log} {x : State} → Settled n own s p d x → Tie n own (snapped v (actAt k) x) (closed p made d)
+      snap : (k : ℕ) → placeIn beat ≡ k → {d : Option Log} {x : State} → Settled S s p d x → Tie S (snapped v (actAt k) x) (closed p made d)
       snap zero e {d} w = settled-tie made d w (λ u l. ((λ z. omega arith), (λ z. omega arith)))
       snap (suc zero) e {d} w = settled-tie made d w (λ u l. ((λ z. omega arith), (λ z. omega arith)))
       snap (suc (suc zero)) e {d} w = one-tie made d v w (omega arith)
@@ -166,63 +167,63 @@ module _ (n own : ℕ) (s : State) (p : History) (t : Tie n own s p) (busy : p .
   -- ---- what is made and decided
 
   module _ (block : Block) (priority : ℕ) where
-    made-same : makes (s .bench .own) (viewOf beat) block priority (seenOf (over s) (viewOf beat)) (actAt (placeIn beat)) ≡ madeBy n own p block priority
+    made-same : makes (s .bench .own) (viewOf beat) block priority (seenOf (over s) (viewOf beat)) (actAt (placeIn beat)) ≡ madeBy S p block priority
     unfolding madeBy
     made-same =
         ap (λ (k : ℕ). makes k (viewOf beat) block priority (seenOf (over s) (viewOf beat)) (actAt (placeIn beat))) (t .own-is)
-        ∙ ap (λ (x : Seen). makes own (viewOf beat) block priority x (actAt (placeIn beat))) (over-seen s (viewOf beat))
-        ∙ makes-same n own s p t block priority beat next (viewOf beat) (placeIn beat) refl refl
-        ∙ ap (λ (k : ℕ). makes own (viewOf k) block priority (seenAt n p (viewOf k)) (actAt (placeIn k))) (sym now)
+        ∙ ap (λ (x : Seen). makes (S .own) (viewOf beat) block priority x (actAt (placeIn beat))) (over-seen s (viewOf beat))
+        ∙ makes-same S s p t block priority beat next (viewOf beat) (placeIn beat) refl refl
+        ∙ ap (λ (k : ℕ). makes (S .own) (viewOf k) block priority (seenAt S p (viewOf k)) (actAt (placeIn k))) (sym now)
 
-    decided-same : decides (seenOf (over s) (viewOf beat)) (actAt (placeIn beat)) ≡ decidedBy n p
+    decided-same : decides (seenOf (over s) (viewOf beat)) (actAt (placeIn beat)) ≡ decidedBy S p
     unfolding decidedBy
     decided-same =
         ap (λ (x : Seen). decides x (actAt (placeIn beat))) (over-seen s (viewOf beat))
-        ∙ decides-same n own s p t block priority beat next (viewOf beat) (placeIn beat) refl refl
-        ∙ ap (λ (k : ℕ). decides (seenAt n p (viewOf k)) (actAt (placeIn k))) (sym now)
+        ∙ decides-same S s p t block priority beat next (viewOf beat) (placeIn beat) refl refl
+        ∙ ap (λ (k : ℕ). decides (seenAt S p (viewOf k)) (actAt (placeIn k))) (sym now)
 
     module _ (typed : (block .name < 2 ^ 64) × (block .count < 2 ^ 16) × (priority < 2 ^ 64)) where
       -- what is made is filed in both
-      filed-tie : (x : State) (q : History) → Tie n own x q → x .bench .next ≡ s .bench .next → (o : Option Meaning) → o ≡ madeBy n own p block priority → Tie n own (withMade x o) (fileMade q o)
+      filed-tie : (x : State) (q : History) → Tie S x q → x .bench .next ≡ s .bench .next → (o : Option Meaning) → o ≡ madeBy S p block priority → Tie S (withMade x o) (fileMade q o)
       filed-tie x q h nx none e = h
       filed-tie x q h nx (some m) e =
-          let lo : own < n = let a = t .fine .own in let c = t .own-is in let f = t .n-is in omega arith in
-          let w = made-good n own block priority lo (typed .0) (typed .1) (typed .2) p (t .good) m (sym e) in
+          let lo : S .own < S .terms .n = let a = t .fine .own in let c = t .own-is in let f = t .n-is in omega arith in
+          let w = made-good S block priority lo (typed .0) (typed .1) (typed .2) p (t .good) m (sym e) in
           let l = started t busy in
           let o : openTo m beat ≡ true = made-open (s .bench .own) (viewOf beat) (placeIn beat) block priority (seenOf (over s) (viewOf beat)) m beat refl refl (made-same ∙ sym e) in
           let same : beatOf (x .bench) ≡ beat = ap (λ (k : ℕ). k - 1) nx in
-          file-tie n own x q h (bytesOf m) (omega arith) m w (carries-read n (bytesOf m) m (read-written n m w)) (ap (openTo m) same ∙ o) .1
+          file-tie S x q h (bytesOf m) (omega arith) m w (carries-read (S .terms .n) (bytesOf m) m (read-written (S .terms .n) m w)) (ap (openTo m) same ∙ o) .1
 
-      changes : Tie n own (changed (over s) (viewOf beat) (actAt (placeIn beat))) (closed p (madeBy n own p block priority) (decidedBy n p))
+      changes : Tie S (changed (over s) (viewOf beat) (actAt (placeIn beat))) (closed p (madeBy S p block priority) (decidedBy S p))
       changes =
           let e = decided-same in
-          subst (λ (d : Option Log). Tie n own (changed (over s) (viewOf beat) (actAt (placeIn beat))) (closed p (madeBy n own p block priority) d)) e
-          (changed-tie (madeBy n own p block priority) (viewOf beat) (placeIn beat) refl refl (λ L f. decided-good n p (t .good) L (sym e ∙ f)))
+          subst (λ (d : Option Log). Tie S (changed (over s) (viewOf beat) (actAt (placeIn beat))) (closed p (madeBy S p block priority) d)) e
+          (changed-tie (madeBy S p block priority) (viewOf beat) (placeIn beat) refl refl (λ L f. decided-good S p (t .good) L (sym e ∙ f)))
 
       next-kept : changed (over s) (viewOf beat) (actAt (placeIn beat)) .bench .next ≡ s .bench .next
       next-kept = last-injective _ (s .bench .next) (changes .last-is ∙ sym (t .last-is))
 
-      act-accepted : (out : List ℕ) → refusal n p (act block priority out) ≡ none
-          → Agrees n own s p (act block priority out) (actedOf (over s) block priority out (viewOf beat) (actAt (placeIn beat)))
+      act-accepted : (out : List ℕ) → refusal S p (act block priority out) ≡ none
+          → Agrees S s p (act block priority out) (actedOf (over s) block priority out (viewOf beat) (actAt (placeIn beat)))
       unfolding actedOf accepted acceptedAnswer
       act-accepted out ok =
           let e = made-same in
-          both-accept n own s p t (act block priority out) (actedOf (over s) block priority out (viewOf beat) (actAt (placeIn beat))) ok
+          both-accept S s p t (act block priority out) (actedOf (over s) block priority out (viewOf beat) (actAt (placeIn beat))) ok
           (λ i. record { reply = acted (e i); out = outAfter (e i) out })
-          (subst (λ (o : Option Meaning). Tie n own (withMade (changed (over s) (viewOf beat) (actAt (placeIn beat))) o) (fileMade (closed p (madeBy n own p block priority) (decidedBy n p)) (madeBy n own p block priority))) (sym e)
-          (filed-tie (changed (over s) (viewOf beat) (actAt (placeIn beat))) (closed p (madeBy n own p block priority) (decidedBy n p)) changes next-kept (madeBy n own p block priority) refl))
+          (subst (λ (o : Option Meaning). Tie S (withMade (changed (over s) (viewOf beat) (actAt (placeIn beat))) o) (fileMade (closed p (madeBy S p block priority) (decidedBy S p)) (madeBy S p block priority))) (sym e)
+          (filed-tie (changed (over s) (viewOf beat) (actAt (placeIn beat))) (closed p (madeBy S p block priority) (decidedBy S p)) changes next-kept (madeBy S p block priority) refl))
 
-pub act-agrees : (n own : ℕ) (s : State) (p : History) → Tie n own s p → (block : Block) (priority : ℕ) (out : List ℕ) → Typed (act block priority out)
-    → Agrees n own s p (act block priority out) (actOf s block priority out)
+pub act-agrees : (S : Seat) (s : State) (p : History) → Tie S s p → (block : Block) (priority : ℕ) (out : List ℕ) → Typed (act block priority out)
+    → Agrees S s p (act block priority out) (actOf s block priority out)
 unfolding actOf refusal answer
-act-agrees n own s p t block priority out typed =
+act-agrees S s p t block priority out typed =
     either (ltb (length out) mostBytes)
-    (λ e. rw (in-limits t, long-lists t, e) (both-refuse n own s p t (act block priority out) out 11 (rw e) (rw e)))
+    (λ e. rw (in-limits t, long-lists t, e) (both-refuse S s p t (act block priority out) out 11 (rw e) (rw e)))
     (λ e. either (idle (s .bench))
     (λ i.
     let g : p .gathering ≡ false = sym (t .gathering-is) ∙ ap not i in
-    rw (in-limits t, long-lists t, e, i) (both-refuse n own s p t (act block priority out) out 22 (rw (e, g)) (rw (e, g))))
+    rw (in-limits t, long-lists t, e, i) (both-refuse S s p t (act block priority out) out 22 (rw (e, g)) (rw (e, g))))
     (λ i.
     let g : p .gathering ≡ true = sym (t .gathering-is) ∙ ap not i in
     rw (in-limits t, long-lists t, e, i)
-    (act-accepted n own s p t g block priority (typed .0, typed .1, typed .2) out (rw (e, g)))))
+    (act-accepted S s p t g block priority (typed .0, typed .1, typed .2) out (rw (e, g)))))

@@ -13,6 +13,7 @@ use Rattle.message.specs.Choice.{pick}
 use Rattle.message.specs.Logs.{Block}
 use Rattle.message.specs.Message.{Content, Meaning, logMessage, proposalMessage, Reading, refused as unread, means, readOf}
 use Rattle.agreement.specs.Filing.{Word}
+use Rattle.bench.specs.Terms.{Seat}
 use Rattle.bench.specs.Layout.{mostBytes}
 use Rattle.bench.specs.Calendar.{lastBeat}
 use Rattle.bench.specs.Calls.{Call, begin, receive, act, took, Answer, openTo}
@@ -20,21 +21,21 @@ use Rattle.bench.specs.History.{ActRecord, History, beatNow, notAbove, r
 
 -- ---- a call is refused and changes nothing, or is accepted
 
-pub step-refused : (n own : ℕ) (p : History) (c : Call) (k : ℕ) → refusal n p c ≡ some k → step n own p c ≡ p
+pub step-refused : (S : Seat) (p : History) (c : Call) (k : ℕ) → refusal S p c ≡ some k → step S p c ≡ p
 unfolding step
-step-refused n own p c k e = rw e
+step-refused S p c k e = rw e
 
-pub step-ok : (n own : ℕ) (p : History) (c : Call) → refusal n p c ≡ none → step n own p c ≡ accepted n own p c
+pub step-ok : (S : Seat) (p : History) (c : Call) → refusal S p c ≡ none → step S p c ≡ accepted S p c
 unfolding step
-step-ok n own p c e = rw e
+step-ok S p c e = rw e
 
-pub step-cases : (n own : ℕ) (p : History) (c : Call)
-    → (step n own p c ≡ p) ⊎ ((refusal n p c ≡ none) × (step n own p c ≡ accepted n own p c))
-step-cases n own p c = go (refusal n p c) refl
+pub step-cases : (S : Seat) (p : History) (c : Call)
+    → (step S p c ≡ p) ⊎ ((refusal S p c ≡ none) × (step S p c ≡ accepted S p c))
+step-cases S p c = go (refusal S p c) refl
   where
-    go : (r : Option ℕ) → refusal n p c ≡ r → (step n own p c ≡ p) ⊎ ((refusal n p c ≡ none) × (step n own p c ≡ accepted n own p c))
-    go none e = inr (e, step-ok n own p c e)
-    go (some k) e = inl (step-refused n own p c k e)
+    go : (r : Option ℕ) → refusal S p c ≡ r → (step S p c ≡ p) ⊎ ((refusal S p c ≡ none) × (step S p c ≡ accepted S p c))
+    go none e = inr (e, step-ok S p c e)
+    go (some k) e = inl (step-refused S p c k e)
 
 -- ---- what it takes not to be refused
 
@@ -47,33 +48,33 @@ not-false : (t : Bool) → not t ≡ false → t ≡ true
 not-false true e = refl
 not-false false e = absurd (false≢true (sym e))
 
-pub begin-ok : (n : ℕ) (p : History) (b : ℕ) → refusal n p (begin b) ≡ none → (b ≤ lastBeat) × (notAbove b (p .last) ≡ false)
+pub begin-ok : (S : Seat) (p : History) (b : ℕ) → refusal S p (begin b) ≡ none → (b ≤ lastBeat) × (notAbove b (p .last) ≡ false)
 unfolding refusal
-begin-ok n p b e =
+begin-ok S p b e =
     let x = pick-none (ltb lastBeat b) 10 (pick (notAbove b (p .last)) (some 20) none) e in
     (ltb-false lastBeat b (x .0), pick-none (notAbove b (p .last)) 20 none (x .1) .0)
 
-pub act-ok : (n : ℕ) (p : History) (block : Block) (priority : ℕ) (out : List ℕ)
-    → refusal n p (act block priority out) ≡ none → (mostBytes ≤ length out) × (p .gathering ≡ true)
+pub act-ok : (S : Seat) (p : History) (block : Block) (priority : ℕ) (out : List ℕ)
+    → refusal S p (act block priority out) ≡ none → (mostBytes ≤ length out) × (p .gathering ≡ true)
 unfolding refusal
-act-ok n p block priority out e =
+act-ok S p block priority out e =
     let x = pick-none (ltb (length out) mostBytes) 11 (pick (not (p .gathering)) (some 22) none) e in
     (ltb-false (length out) mostBytes (x .0), not-false (p .gathering) (pick-none (not (p .gathering)) 22 none (x .1) .0))
 
 -- a message that is taken
-pub record Receives (n : ℕ) (p : History) (bytes : List ℕ) : Type 0 where
+pub record Receives (S : Seat) (p : History) (bytes : List ℕ) : Type 0 where
   pub message : Meaning
-  pub read : readOf n bytes ≡ means message
+  pub read : readOf (S .terms .n) bytes ≡ means message
   pub gathering : p .gathering ≡ true
   pub inWindow : openTo message (beatNow p) ≡ true
 
-pub receive-ok : (n : ℕ) (p : History) (bytes : List ℕ) → refusal n p (receive bytes) ≡ none → Receives n p bytes
+pub receive-ok : (S : Seat) (p : History) (bytes : List ℕ) → refusal S p (receive bytes) ≡ none → Receives S p bytes
 unfolding refusal
-receive-ok n p bytes e =
-    let x = pick-none (not (p .gathering)) 22 (readingRefusal (beatNow p) (readOf n bytes)) e in
-    go (readOf n bytes) refl (x .1) (not-false (p .gathering) (x .0))
+receive-ok S p bytes e =
+    let x = pick-none (not (p .gathering)) 22 (readingRefusal (beatNow p) (readOf (S .terms .n) bytes)) e in
+    go (readOf (S .terms .n) bytes) refl (x .1) (not-false (p .gathering) (x .0))
   where
-    go : (r : Reading) → readOf n bytes ≡ r → readingRefusal (beatNow p) r ≡ none → p .gathering ≡ true → Receives n p bytes
+    go : (r : Reading) → readOf (S .terms .n) bytes ≡ r → readingRefusal (beatNow p) r ≡ none → p .gathering ≡ true → Receives S p bytes
     go (unread k) q h g = absurd (Option·some-ne-none k h)
     go (means m) q h g =
         record { message = m; read = q; gathering = g; inWindow = not-false (openTo m (beatNow p)) (pick-none (not (openTo m (beatNow p))) 21 none h .0) }
@@ -82,23 +83,23 @@ means-injective : (m k : Meaning) → means m ≡ means k → m ≡ k
 means-injective m k e = cc
 
 -- the message read was open to its kind
-pub receive-open : (n : ℕ) (p : History) (bytes : List ℕ) (m : Meaning) → refusal n p (receive bytes) ≡ none → readOf n bytes ≡ means m → openTo m (beatNow p) ≡ true
-receive-open n p bytes m ok e =
-    let r = receive-ok n p bytes ok in
+pub receive-open : (S : Seat) (p : History) (bytes : List ℕ) (m : Meaning) → refusal S p (receive bytes) ≡ none → readOf (S .terms .n) bytes ≡ means m → openTo m (beatNow p) ≡ true
+receive-open S p bytes m ok e =
+    let r = receive-ok S p bytes ok in
     subst (λ (k : Meaning). openTo k (beatNow p) ≡ true) (means-injective (r .message) m (sym (r .read) ∙ e)) (r .inWindow)
 
-pub receive-refusal : (n : ℕ) (p : History) (bytes : List ℕ) (m : Meaning)
-    → readOf n bytes ≡ means m → p .gathering ≡ true → openTo m (beatNow p) ≡ true → refusal n p (receive bytes) ≡ none
+pub receive-refusal : (S : Seat) (p : History) (bytes : List ℕ) (m : Meaning)
+    → readOf (S .terms .n) bytes ≡ means m → p .gathering ≡ true → openTo m (beatNow p) ≡ true → refusal S p (receive bytes) ≡ none
 unfolding refusal
-receive-refusal n p bytes m q g w = rw (g, q, w)
+receive-refusal S p bytes m q g w = rw (g, q, w)
 
 -- ---- the word answered to a message taken
 
-pub taken-reply : (n own : ℕ) (p : History) (bytes : List ℕ) (m : Meaning) → refusal n p (receive bytes) ≡ none → readOf n bytes ≡ means m
-    → answer n own p (receive bytes) .reply ≡ took (wordFor p m)
+pub taken-reply : (S : Seat) (p : History) (bytes : List ℕ) (m : Meaning) → refusal S p (receive bytes) ≡ none → readOf (S .terms .n) bytes ≡ means m
+    → answer S p (receive bytes) .reply ≡ took (wordFor p m)
 unfolding answer acceptedAnswer
-taken-reply n own p bytes m ok r =
-    let a : answer n own p (receive bytes) ≡ acceptedAnswer n own p (receive bytes) = rw ok in
+taken-reply S p bytes m ok r =
+    let a : answer S p (receive bytes) ≡ acceptedAnswer S p (receive bytes) = rw ok in
     ap (λ (x : Answer). x .reply) a ∙ ap (wordRead p) r
 
 pub took-injective : (v w : Word) → took v ≡ took w → v ≡ w
@@ -145,28 +146,28 @@ made-heard p (some m) h i = file-heard p m h i
 
 -- ---- an accepted call
 
-pub accepted-receive : (n own : ℕ) (p : History) (bytes : List ℕ) (m : Meaning) → readOf n bytes ≡ means m → accepted n own p (receive bytes) ≡ file p m
+pub accepted-receive : (S : Seat) (p : History) (bytes : List ℕ) (m : Meaning) → readOf (S .terms .n) bytes ≡ means m → accepted S p (receive bytes) ≡ file p m
 unfolding accepted
-accepted-receive n own p bytes m e = rw e
+accepted-receive S p bytes m e = rw e
 
-pub accepted-act : (n own : ℕ) (p : History) (block : Block) (priority : ℕ) (out : List ℕ)
-    → accepted n own p (act block priority out) ≡ fileMade (closed p (madeBy n own p block priority) (decidedBy n p)) (madeBy n own p block priority)
+pub accepted-act : (S : Seat) (p : History) (block : Block) (priority : ℕ) (out : List ℕ)
+    → accepted S p (act block priority out) ≡ fileMade (closed p (madeBy S p block priority) (decidedBy S p)) (madeBy S p block priority)
 unfolding accepted
-accepted-act n own p block priority out = refl
+accepted-act S p block priority out = refl
 
 -- what is recorded of an act
-abbrev pub recordOf : (n own : ℕ) → History → Block → ℕ → ActRecord
-recordOf n own p block priority =
-    record { beat = beatNow p; heard = p .heard; made = madeBy n own p block priority; decided = decidedBy n p }
+abbrev pub recordOf : (S : Seat) → History → Block → ℕ → ActRecord
+recordOf S p block priority =
+    record { beat = beatNow p; heard = p .heard; made = madeBy S p block priority; decided = decidedBy S p }
 
-pub accepted-actions-act : (n own : ℕ) (p : History) (block : Block) (priority : ℕ) (out : List ℕ)
-    → accepted n own p (act block priority out) .actions ≡ recordOf n own p block priority ∷ p .actions
-accepted-actions-act n own p block priority out =
-    let m = madeBy n own p block priority in
-    ap (λ (q : History). q .actions) (accepted-act n own p block priority out) ∙ made-actions (closed p m (decidedBy n p)) m
+pub accepted-actions-act : (S : Seat) (p : History) (block : Block) (priority : ℕ) (out : List ℕ)
+    → accepted S p (act block priority out) .actions ≡ recordOf S p block priority ∷ p .actions
+accepted-actions-act S p block priority out =
+    let m = madeBy S p block priority in
+    ap (λ (q : History). q .actions) (accepted-act S p block priority out) ∙ made-actions (closed p m (decidedBy S p)) m
 
-pub accepted-actions-receive : (n own : ℕ) (p : History) (bytes : List ℕ) → refusal n p (receive bytes) ≡ none
-    → accepted n own p (receive bytes) .actions ≡ p .actions
-accepted-actions-receive n own p bytes ok =
-    let r = receive-ok n p bytes ok in
-    ap (λ (q : History). q .actions) (accepted-receive n own p bytes (r .message) (r .read)) ∙ file-actions p (r .message)
+pub accepted-actions-receive : (S : Seat) (p : History) (bytes : List ℕ) → refusal S p (receive bytes) ≡ none
+    → accepted S p (receive bytes) .actions ≡ p .actions
+accepted-actions-receive S p bytes ok =
+    let r = receive-ok S p bytes ok in
+    ap (λ (q : History). q .actions) (accepted-receive S p bytes (r .message) (r .read)) ∙ file-actions p (r .message)

@@ -19,6 +19,7 @@ use Rattle.agreement.specs.Record.{emptyAgreement}
 use Rattle.agreement.specs.Proposals.{emptyProposals}
 use Rattle.agreement.specs.declared.Agreement.{Agreement}
 use Rattle.agreement.specs.declared.Proposals.{Proposals}
+use Rattle.bench.specs.Terms.{Terms, Seat, seatOf}
 use Rattle.bench.specs.Layout.{isEven, decidedPlace, leastLent, Lent, shortLists, outOfRange}
 use Rattle.bench.specs.Calendar.{lastBeat}
 use Rattle.bench.specs.Calls.{Call, begin, receive, refused, took, Step, openTo, State}
@@ -37,24 +38,24 @@ use Rattle.bench.proofs.LogTies.{Carries}
 use Rattle.bench.proofs.FilingTies.{file-tie}
 
 -- What a call of the record has to do with the history's: the same answer; tied afterwards; and a refusal leaves record and lists.
-pub record Agrees (n own : ℕ) (s : State) (p : History) (c : Call) (r : Step) : Type 0 where
-  pub answered : r .answer ≡ answer n own p c
-  pub tied : Tie n own (r .held) (step n own p c)
-  pub left : (k : ℕ) → refusal n p c ≡ some k → r .held ≡ s
+pub record Agrees (S : Seat) (s : State) (p : History) (c : Call) (r : Step) : Type 0 where
+  pub answered : r .answer ≡ answer S p c
+  pub tied : Tie S (r .held) (step S p c)
+  pub left : (k : ℕ) → refusal S p c ≡ some k → r .held ≡ s
 
-module _ (n own : ℕ) (s : State) (p : History) (t : Tie n own s p) (c : Call) where
+module _ (S : Seat) (s : State) (p : History) (t : Tie S s p) (c : Call) where
   -- both refuse
-  pub both-refuse : (out : List ℕ) (k : ℕ) → refusal n p c ≡ some k → answer n own p c ≡ record { reply = refused k; out = out } → Agrees n own s p c (refuse s out k)
+  pub both-refuse : (out : List ℕ) (k : ℕ) → refusal S p c ≡ some k → answer S p c ≡ record { reply = refused k; out = out } → Agrees S s p c (refuse s out k)
   unfolding step
   both-refuse out k e a = record { answered = sym a; tied = rw e t; left = λ j f. refl }
 
   -- both accept
-  pub both-accept : (r : Step) → refusal n p c ≡ none → r .answer ≡ acceptedAnswer n own p c → Tie n own (r .held) (accepted n own p c) → Agrees n own s p c r
+  pub both-accept : (r : Step) → refusal S p c ≡ none → r .answer ≡ acceptedAnswer S p c → Tie S (r .held) (accepted S p c) → Agrees S s p c r
   unfolding step answer
   both-accept r e a h = record { answered = rw e a; tied = rw e h; left = λ k f. absurd (Option·none-ne-some _ (sym e ∙ f)) }
 
 -- no record tied to a history is beyond its limits or has lists too short
-module _ {n own : ℕ} {s : State} {p : History} (t : Tie n own s p) where
+module _ {S : Seat} {s : State} {p : History} (t : Tie S s p) where
   pub in-limits : beyond (s .bench) ≡ false
   in-limits = not-beyond (s .bench) (t .fine)
 
@@ -96,8 +97,8 @@ above-same s beat = go (s .next)
         (λ e. let l = leb-true beat last e in lt-ltb beat (suc last) (omega arith) ∙ sym e)
         (λ e. let l = leb-false beat last e in le-ltb beat (suc last) (omega arith) ∙ sym e)
 
-module _ (n own : ℕ) (s : State) (p : History) (t : Tie n own s p) (beat : ℕ) where
-  begun-tie : beat ≤ lastBeat → s .bench .next ≤ beat → Tie n own (begun s beat .held) (accepted n own p (begin beat))
+module _ (S : Seat) (s : State) (p : History) (t : Tie S s p) (beat : ℕ) where
+  begun-tie : beat ≤ lastBeat → s .bench .next ≤ beat → Tie S (begun s beat .held) (accepted S p (begin beat))
   unfolding accepted
   begun-tie low above = record {
     n-is = t .n-is;
@@ -109,10 +110,10 @@ module _ (n own : ℕ) (s : State) (p : History) (t : Tie n own s p) (beat : ℕ
     filled =
         record {
           views = λ v i o.
-              subst (λ (g : Agreement). Holds (s .lent) g (accepted n own p (begin beat)) v) (sym (begun-open (s .bench) beat v (omega arith)))
+              subst (λ (g : Agreement). Holds (s .lent) g (accepted S p (begin beat)) v) (sym (begun-open (s .bench) beat v (omega arith)))
               (holds-same (record { logs = λ j. refl; one = refl; two = refl }) (t .filled .views v i (omega arith)));
           proposals = λ v i o.
-              subst (λ (g : Proposals). HoldsProposals (s .lent) g (accepted n own p (begin beat)) v) (sym (begun-proposals-open (s .bench) beat v (omega arith)))
+              subst (λ (g : Proposals). HoldsProposals (s .lent) g (accepted S p (begin beat)) v) (sym (begun-proposals-open (s .bench) beat v (omega arith)))
               (t .filled .proposals v i (omega arith));
           since =
               record {
@@ -125,20 +126,20 @@ module _ (n own : ℕ) (s : State) (p : History) (t : Tie n own s p) (beat : ℕ
     good = record { heard = t .good .heard; proposals = t .good .proposals; priorities = t .good .priorities };
   }
 
-  pub begin-agrees : Agrees n own s p (begin beat) (beginOf s beat)
+  pub begin-agrees : Agrees S s p (begin beat) (beginOf s beat)
   unfolding beginOf refusal answer acceptedAnswer
   begin-agrees =
       let above = above-same (s .bench) beat ∙ ap (notAbove beat) (t .last-is) in
       either (ltb lastBeat beat)
-      (λ e. rw (in-limits t, long-lists t, e) (both-refuse n own s p t (begin beat) [] 10 (rw e) (rw e)))
+      (λ e. rw (in-limits t, long-lists t, e) (both-refuse S s p t (begin beat) [] 10 (rw e) (rw e)))
       (λ e. either (notAboveLast (s .bench) beat)
       (λ f.
       let g : notAbove beat (p .last) ≡ true = sym above ∙ f in
-      rw (in-limits t, long-lists t, e, f) (both-refuse n own s p t (begin beat) [] 20 (rw (e, g)) (rw (e, g))))
+      rw (in-limits t, long-lists t, e, f) (both-refuse S s p t (begin beat) [] 20 (rw (e, g)) (rw (e, g))))
       (λ f.
       let g : notAbove beat (p .last) ≡ false = sym above ∙ f in
       rw (in-limits t, long-lists t, e, f)
-      (both-accept n own s p t (begin beat) (begun s beat) (rw (e, g)) refl (begun-tie (ltb-false lastBeat beat e) (ltb-false beat (s .bench .next) f)))))
+      (both-accept S s p t (begin beat) (begun s beat) (rw (e, g)) refl (begun-tie (ltb-false lastBeat beat e) (ltb-false beat (s .bench .next) f)))))
 
 -- ---- Receive
 
@@ -149,47 +150,47 @@ carries-read n bytes m e = record {
   log = ap (λ (x : Content). x .log) (sym (said-in bytes)) ∙ ap (λ (x : Meaning). logOf x) (read-accepted n bytes m e .1);
 }
 
-module _ (n own : ℕ) (s : State) (p : History) (t : Tie n own s p) (bytes : List ℕ) (typed : AllBelow 256 bytes) where
+module _ (S : Seat) (s : State) (p : History) (t : Tie S s p) (bytes : List ℕ) (typed : AllBelow 256 bytes) where
   -- once a gathering is under way
-  reading-agrees : p .gathering ≡ true → (r : Reading) → readOf n bytes ≡ r → Agrees n own s p (receive bytes) (receives s bytes r)
+  reading-agrees : p .gathering ≡ true → (r : Reading) → readOf (S .terms .n) bytes ≡ r → Agrees S s p (receive bytes) (receives s bytes r)
   unfolding refusal answer acceptedAnswer accepted
-  reading-agrees g (unread k) e = both-refuse n own s p t (receive bytes) [] k (rw (g, e)) (rw (g, e))
+  reading-agrees g (unread k) e = both-refuse S s p t (receive bytes) [] k (rw (g, e)) (rw (g, e))
   reading-agrees g (means m) e =
       either (openTo m (beatOf (s .bench)))
       (λ w.
       let w′ : openTo m (beatNow p) ≡ true = ap (openTo m) (sym (beat-same t)) ∙ w in
-      let x = file-tie n own s p t bytes (started t g) m (read-writable n bytes m typed e) (carries-read n bytes m e) w in
+      let x = file-tie S s p t bytes (started t g) m (read-writable (S .terms .n) bytes m typed e) (carries-read (S .terms .n) bytes m e) w in
       let word : took (fileMessage s bytes m .word) ≡ took (wordFor p m) = ap took (x .0) in
       rw w
-      (both-accept n own s p t (receive bytes) (taken (fileMessage s bytes m)) (rw (g, e, w′)) (rw e (λ i. record { reply = word i; out = [] })) (rw e (x .1))))
+      (both-accept S s p t (receive bytes) (taken (fileMessage s bytes m)) (rw (g, e, w′)) (rw e (λ i. record { reply = word i; out = [] })) (rw e (x .1))))
       (λ w.
       let w′ : openTo m (beatNow p) ≡ false = ap (openTo m) (sym (beat-same t)) ∙ w in
-      rw w (both-refuse n own s p t (receive bytes) [] 21 (rw (g, e, w′)) (rw (g, e, w′))))
+      rw w (both-refuse S s p t (receive bytes) [] 21 (rw (g, e, w′)) (rw (g, e, w′))))
 
-  pub receive-agrees : Agrees n own s p (receive bytes) (receiveOf s bytes)
+  pub receive-agrees : Agrees S s p (receive bytes) (receiveOf s bytes)
   unfolding receiveOf refusal answer
   receive-agrees =
       either (idle (s .bench))
       (λ i.
       let g : p .gathering ≡ false = sym (t .gathering-is) ∙ ap not i in
-      rw (in-limits t, long-lists t, i) (both-refuse n own s p t (receive bytes) [] 22 (rw g) (rw g)))
+      rw (in-limits t, long-lists t, i) (both-refuse S s p t (receive bytes) [] 22 (rw g) (rw g)))
       (λ i.
       let g : p .gathering ≡ true = sym (t .gathering-is) ∙ ap not i in
       rw (in-limits t, long-lists t, i)
-      (subst (λ (k : ℕ). Agrees n own s p (receive bytes) (receives s bytes (readOf k bytes))) (sym (t .n-is)) (reading-agrees g (readOf n bytes) refl)))
+      (subst (λ (k : ℕ). Agrees S s p (receive bytes) (receives s bytes (readOf k bytes))) (sym (t .n-is)) (reading-agrees g (readOf (S .terms .n) bytes) refl)))
 
 -- ---- Open
 
-pub open-tie : (n own : ℕ) (l : Lent) → outOfRange n own ≡ false → shortLists l ≡ false → AllBelow (2 ^ 64) (l .names) → AllBelow (2 ^ 16) (l .counts)
-    → Tie n own (record { bench = freshBench n own; lent = l }) fresh
+pub open-tie : (T : Terms) (own : ℕ) (l : Lent) → outOfRange (T .n) own ≡ false → shortLists l ≡ false → AllBelow (2 ^ 64) (l .names) → AllBelow (2 ^ 16) (l .counts)
+    → Tie (seatOf T own) (record { bench = freshBench (T .n) own; lent = l }) (fresh (seatOf T own))
 unfolding standIn agreementOf proposalsOf
-open-tie n own l r h names counts =
+open-tie T own l r h names counts =
     let long = lists-roomy l h in
-    let since : Since 0 fresh = record { logs = λ m i. absurd (List·Memᴰ·not-nil i); proposals = λ m i. absurd (List·Memᴰ·not-nil i); acts = λ d i. absurd (List·Memᴰ·not-nil i) } in
+    let since : Since 0 (fresh (seatOf T own)) = record { logs = λ m i. absurd (List·Memᴰ·not-nil i); proposals = λ m i. absurd (List·Memᴰ·not-nil i); acts = λ d i. absurd (List·Memᴰ·not-nil i) } in
     record {
       n-is = refl;
       own-is = refl;
-      fine = fresh-fine n own r;
+      fine = fresh-fine (T .n) own r;
       roomy =
           record {
             names = long .0;
@@ -201,16 +202,16 @@ open-tie n own l r h names counts =
       gathering-is = refl;
       filled =
           record {
-            views = λ v i o. subst (λ (g : Agreement). Holds l g fresh v) (sym (fresh-agreement v)) (empty-holds since v l (omega arith));
-            proposals = λ v i o. subst (λ (g : Proposals). HoldsProposals l g fresh v) (sym (fresh-proposals v)) (empty-proposals-holds since v l (omega arith));
+            views = λ v i o. subst (λ (g : Agreement). Holds l g (fresh (seatOf T own)) v) (sym (fresh-agreement v)) (empty-holds since v l (omega arith));
+            proposals = λ v i o. subst (λ (g : Proposals). HoldsProposals l g (fresh (seatOf T own)) v) (sym (fresh-proposals v)) (empty-proposals-holds since v l (omega arith));
             since = since;
           };
       stand-is = let e = log-empty (l .names) (l .counts) decidedPlace 0 (omega arith) in λ i. record { log = e i; parted = false };
-      good = fresh-good n;
+      good = fresh-good (seatOf T own);
     }
   where
-    fresh-agreement : (v : ℕ) → agreementOf (freshBench n own) v ≡ emptyAgreement v
+    fresh-agreement : (v : ℕ) → agreementOf (freshBench (T .n) own) v ≡ emptyAgreement v
     fresh-agreement v = either (isEven v) (λ e. rw e (empty-of-view 0 v)) (λ e. rw e (empty-of-view 0 v))
 
-    fresh-proposals : (v : ℕ) → proposalsOf (freshBench n own) v ≡ emptyProposals v
+    fresh-proposals : (v : ℕ) → proposalsOf (freshBench (T .n) own) v ≡ emptyProposals v
     fresh-proposals v = either (eqb 0 v) (λ e. rw e (ap emptyProposals (eqb-true 0 v e))) (λ e. rw e)

@@ -7,6 +7,7 @@ use mathlib.Core.Path.{_≡_, refl}
 use borrow.Author.Tests.{leb-true}
 use lib.Dec.{leb}
 use Rattle.message.specs.Message.{Meaning, logMessage, proposalMessage, logOf, WritableMeaning}
+use Rattle.bench.specs.Terms.{Seat}
 use Rattle.bench.specs.Calendar.{viewBeat, inputBeat, closeBeat}
 use Rattle.bench.specs.Calls.{openTo, State}
 use Rattle.bench.specs.History.{History, file, wordFor}
@@ -24,15 +25,15 @@ in-window first last beat next e h w =
     let y = leb-true beat last (a .1) in
     (omega arith, omega arith)
 
-module _ (n own : ℕ) (s : State) (p : History) (t : Tie n own s p) (bytes : List ℕ) (started : 0 < s .bench .next) where
-  pub file-tie : (m : Meaning) → WritableMeaning n m → Carries bytes (logOf m) → openTo m (beatOf (s .bench)) ≡ true
-      → (fileMessage s bytes m .word ≡ wordFor p m) × Tie n own (fileMessage s bytes m .held) (file p m)
+module _ (S : Seat) (s : State) (p : History) (t : Tie S s p) (bytes : List ℕ) (started : 0 < s .bench .next) where
+  pub file-tie : (m : Meaning) → WritableMeaning (S .terms .n) m → Carries bytes (logOf m) → openTo m (beatOf (s .bench)) ≡ true
+      → (fileMessage s bytes m .word ≡ wordFor p m) × Tie S (fileMessage s bytes m .held) (file p m)
   unfolding fileMessage
   file-tie (logMessage m) good c w =
       let x = in-window (inputBeat (m .view)) (closeBeat (m .view)) (beatOf (s .bench)) (s .bench .next) refl started w in
-      (log-word n own s p t bytes m good c (x .0) (x .1), log-tie n own s p t bytes m good c (x .0) (x .1))
+      (log-word S s p t bytes m good c (x .0) (x .1), log-tie S s p t bytes m good c (x .0) (x .1))
   file-tie (proposalMessage m priority) good c w =
       let x = in-window (viewBeat (m .view)) (inputBeat (m .view)) (beatOf (s .bench)) (s .bench .next) refl started w in (
-        proposal-word-tie n own s p t bytes m priority (good .0) (good .1) c (x .0) (x .1),
-        proposal-tie n own s p t bytes m priority (good .0) (good .1) c (x .0) (x .1),
+        proposal-word-tie S s p t bytes m priority (good .0) (good .1) c (x .0) (x .1),
+        proposal-tie S s p t bytes m priority (good .0) (good .1) c (x .0) (x .1),
       )

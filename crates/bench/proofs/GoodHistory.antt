@@ -20,15 +20,16 @@ use Rattle.message.proofs.PartLaws.{one-below, append-below}
 use Rattle.message.proofs.Codec.{read-writable}
 use Rattle.agreement.specs.Heard.{heardLogs, ProposalHeard, heardProposals, voteAmong}
 use Rattle.agreement.proofs.GradeSources.{GradeSource, gradeNow-source, gradeWith-source, heard-source, vote-from, proposed-source}
+use Rattle.bench.specs.Terms.{Seat, weightOf}
 use Rattle.bench.specs.Calendar.{viewOf, placeIn, Act, proposing, voting, deciding, snapping, actAt}
 use Rattle.bench.specs.Calls.{Call, begin, receive, act, Typed, AllTyped}
 use Rattle.bench.specs.Acts.{mayPropose, propose, vote, isView, inViews, makes, decides}
 use Rattle.bench.specs.History.{History, fresh, beatNow, refusal, file, candidateAt, lockAt, decisionAt, seenAt, madeBy, decidedBy, fileRead, fileMade, closed, accepted, orAccepted, step, afterFrom, after}
 
 -- every message taken or made is within the limits
-pub record GoodHistory (n : ℕ) (p : History) : Type 0 where
-  pub heard : (m : Content) → List·Memᴰ m (p .heard) → Writable n m
-  pub proposals : (o : ProposalHeard) → List·Memᴰ o (p .proposals) → Writable n (o .content)
+pub record GoodHistory (S : Seat) (p : History) : Type 0 where
+  pub heard : (m : Content) → List·Memᴰ m (p .heard) → Writable (S .terms .n) m
+  pub proposals : (o : ProposalHeard) → List·Memᴰ o (p .proposals) → Writable (S .terms .n) (o .content)
   pub priorities : (o : ProposalHeard) → List·Memᴰ o (p .proposals) → o .priority < 2 ^ 64
 
 -- ---- logs within the limits
@@ -80,7 +81,7 @@ prefix-good {P} {Q} h g = let t = prefix-iff P Q .0 h in front-good P (t .0) (su
 pub append-good : (L : Log) (b : Block) → length L < mostBlocks → b .name ≢ 0 → b .name < 2 ^ 64 → b .count < 2 ^ 16
     → GoodLog L → GoodLog (L ++ (b ∷ []))
 unfolding someOf namesOf countsOf
-append-good L b s z n c g =
+append-good L b s z S c g =
     let l = length-append L (b ∷ []) in
     record {
       short = omega arith;
@@ -89,7 +90,7 @@ append-good L b s z n c g =
           ∙ rw (g .named, ne-eqb (b .name) 0 z) refl;
       names =
           subst (AllBelow (2 ^ 64)) (sym (names-append L (b ∷ [])))
-          (append-below (2 ^ 64) (namesOf L) (b .name ∷ []) (g .names) (one-below (2 ^ 64) (b .name) n));
+          (append-below (2 ^ 64) (namesOf L) (b .name ∷ []) (g .names) (one-below (2 ^ 64) (b .name) S));
       counts =
           subst (AllBelow (2 ^ 16)) (sym (counts-append L (b ∷ [])))
           (append-below (2 ^ 16) (countsOf L) (b .count ∷ []) (g .counts) (one-below (2 ^ 16) (b .count) c));
@@ -97,32 +98,32 @@ append-good L b s z n c g =
 
 -- ---- what an act sees
 
-module _ (n : ℕ) (p : History) (g : GoodHistory n p) where
+module _ (S : Seat) (p : History) (g : GoodHistory S p) where
   -- a log with a grade is a prefix of one heard
-  graded-good : (u : ℕ) (L : Log) → GradeSource n (heardLogs (p .heard) u) L → GoodLog L
+  graded-good : (u : ℕ) (L : Log) → GradeSource (S .terms .n) (heardLogs (p .heard) u) L → GoodLog L
   graded-good u L s =
       prefix-good (s .extends) (writable-log (g .heard _ (heard-source (p .heard) u (s .sender) (s .log) (s .kept))))
 
-  pub candidate-good : (v : ℕ) (L : Log) → candidateAt n p v ≡ some L → GoodLog L
+  pub candidate-good : (v : ℕ) (L : Log) → candidateAt S p v ≡ some L → GoodLog L
   unfolding candidateAt
   candidate-good zero L e = subst GoodLog (Option·some-injective [] L e) empty-good
-  candidate-good (suc u) L e = graded-good u L (gradeNow-source n (heardLogs (p .heard) u) L e)
+  candidate-good (suc u) L e = graded-good u L (gradeNow-source (S .terms .n) (weightOf (S .terms)) (heardLogs (p .heard) u) L e)
 
-  pub lock-good : (v : ℕ) (L : Log) → lockAt n p v ≡ some L → GoodLog L
+  pub lock-good : (v : ℕ) (L : Log) → lockAt S p v ≡ some L → GoodLog L
   unfolding lockAt
   lock-good zero L e = subst GoodLog (Option·some-injective [] L e) empty-good
   lock-good (suc u) L e =
-      graded-good u L (gradeWith-source n (heardLogs (p .heard) u) _ L e)
+      graded-good u L (gradeWith-source (S .terms .n) (weightOf (S .terms)) (heardLogs (p .heard) u) _ L e)
 
-  pub decision-good : (v : ℕ) (L : Log) → decisionAt n p v ≡ some L → GoodLog L
+  pub decision-good : (v : ℕ) (L : Log) → decisionAt S p v ≡ some L → GoodLog L
   unfolding decisionAt
   decision-good zero L e = absurd (Option·none-ne-some L e)
   decision-good (suc u) L e =
-      graded-good u L (gradeWith-source n (heardLogs (p .heard) u) _ L e)
+      graded-good u L (gradeWith-source (S .terms .n) (weightOf (S .terms)) (heardLogs (p .heard) u) _ L e)
 
   -- a vote is the lock, or a proposal heard
-  pub vote-good : (v : ℕ) (L : Log) → GoodLog L → GoodLog (voteAmong n (heardProposals (p .proposals) v) L)
-  vote-good v L l = elim (vote-from n (heardProposals (p .proposals) v) L) [
+  pub vote-good : (v : ℕ) (L : Log) → GoodLog L → GoodLog (voteAmong (S .terms .n) (heardProposals (p .proposals) v) L)
+  vote-good v L l = elim (vote-from (S .terms .n) (heardProposals (p .proposals) v) L) [
     | inl e ↦ rw e l
     | inr s ↦
         let m = proposed-source (p .proposals) v (s .sender) (s .proposal) (s .its) in
@@ -131,11 +132,11 @@ module _ (n : ℕ) (p : History) (g : GoodHistory n p) where
 
   -- ---- what it decides
 
-  pub decided-good : (L : Log) → decidedBy n p ≡ some L → GoodLog L
+  pub decided-good : (L : Log) → decidedBy S p ≡ some L → GoodLog L
   unfolding decidedBy
   decided-good L e = go (actAt (placeIn (beatNow p))) e
     where
-      go : (a : Act) → decides (seenAt n p (viewOf (beatNow p))) a ≡ some L → GoodLog L
+      go : (a : Act) → decides (seenAt S p (viewOf (beatNow p))) a ≡ some L → GoodLog L
       go proposing q = absurd (Option·none-ne-some L q)
       go voting q = absurd (Option·none-ne-some L q)
       go deciding q = decision-good (viewOf (beatNow p)) L q
@@ -143,13 +144,13 @@ module _ (n : ℕ) (p : History) (g : GoodHistory n p) where
 
 -- ---- what it makes
 
-abbrev GoodMade : ℕ → Option Meaning → Type 0
-GoodMade n none = Unit {0}
-GoodMade n (some m) = WritableMeaning n m
+abbrev GoodMade : Seat → Option Meaning → Type 0
+GoodMade S none = Unit {0}
+GoodMade S (some m) = WritableMeaning (S .terms .n) m
 
-module _ (n own : ℕ) (block : Block) (priority : ℕ)
-    (lo : own < n) (ln : block .name < 2 ^ 64) (lc : block .count < 2 ^ 16) (lp : priority < 2 ^ 64) where
-  propose-good : (v : ℕ) (o : Option Log) → v ≤ lastView → ((L : Log) → o ≡ some L → GoodLog L) → GoodMade n (propose own v block priority o)
+module _ (S : Seat) (block : Block) (priority : ℕ)
+    (lo : S .own < S .terms .n) (ln : block .name < 2 ^ 64) (lc : block .count < 2 ^ 16) (lp : priority < 2 ^ 64) where
+  propose-good : (v : ℕ) (o : Option Log) → v ≤ lastView → ((L : Log) → o ≡ some L → GoodLog L) → GoodMade S (propose (S .own) v block priority o)
   unfolding propose
   propose-good v none lv c = tt
   propose-good v (some C) lv c =
@@ -161,52 +162,52 @@ module _ (n own : ℕ) (block : Block) (priority : ℕ)
       (λ e. rw e tt)
 
   votes-good : (v : ℕ) (choose : Log → Log) (o : Option Log) → v ≤ lastView → ((L : Log) → o ≡ some L → GoodLog (choose L))
-      → GoodMade n (vote own v choose o)
+      → GoodMade S (vote (S .own) v choose o)
   unfolding vote
   votes-good v choose none lv c = tt
   votes-good v choose (some L) lv c = log-writable lo lv (c L refl)
 
-  inViews-good : (v : ℕ) (o : Option Meaning) → (v ≤ lastView → GoodMade n o) → GoodMade n (inViews v o)
+  inViews-good : (v : ℕ) (o : Option Meaning) → (v ≤ lastView → GoodMade S o) → GoodMade S (inViews v o)
   inViews-good v o h = either (isView v) (λ t. rw t (h (leb-true v lastView t))) (λ t. rw t tt)
 
-  module _ (p : History) (g : GoodHistory n p) where
-    makes-good : (v : ℕ) (a : Act) → GoodMade n (makes own v block priority (seenAt n p v) a)
+  module _ (p : History) (g : GoodHistory S p) where
+    makes-good : (v : ℕ) (a : Act) → GoodMade S (makes (S .own) v block priority (seenAt S p v) a)
     unfolding makes
     makes-good v proposing =
-        inViews-good v (propose own v block priority (candidateAt n p v)) (λ lv. propose-good v (candidateAt n p v) lv (candidate-good n p g v))
+        inViews-good v (propose (S .own) v block priority (candidateAt S p v)) (λ lv. propose-good v (candidateAt S p v) lv (candidate-good S p g v))
     makes-good v voting =
-        inViews-good v (vote own v (voteAmong n (heardProposals (p .proposals) v)) (lockAt n p v))
-        (λ lv. votes-good v (voteAmong n (heardProposals (p .proposals) v)) (lockAt n p v) lv (λ L e. vote-good n p g v L (lock-good n p g v L e)))
+        inViews-good v (vote (S .own) v (voteAmong (S .terms .n) (heardProposals (p .proposals) v)) (lockAt S p v))
+        (λ lv. votes-good v (voteAmong (S .terms .n) (heardProposals (p .proposals) v)) (lockAt S p v) lv (λ L e. vote-good S p g v L (lock-good S p g v L e)))
     makes-good v deciding = tt
     makes-good v snapping = tt
 
-    made : GoodMade n (madeBy n own p block priority)
+    made : GoodMade S (madeBy S p block priority)
     unfolding madeBy
     made = makes-good (viewOf (beatNow p)) (actAt (placeIn (beatNow p)))
 
-    pub made-good : (m : Meaning) → madeBy n own p block priority ≡ some m → WritableMeaning n m
-    made-good m e = subst (GoodMade n) e made
+    pub made-good : (m : Meaning) → madeBy S p block priority ≡ some m → WritableMeaning (S .terms .n) m
+    made-good m e = subst (GoodMade S) e made
 
 -- ---- along the calls
 
-pub fresh-good : (n : ℕ) → GoodHistory n fresh
-fresh-good n = record {
+pub fresh-good : (S : Seat) → GoodHistory S (fresh S)
+fresh-good S = record {
   heard = λ m i. absurd (List·Memᴰ·not-nil i);
   proposals = λ o i. absurd (List·Memᴰ·not-nil i);
   priorities = λ o i. absurd (List·Memᴰ·not-nil i);
 }
 
-pub file-good : (n : ℕ) (p : History) (m : Meaning) → WritableMeaning n m → GoodHistory n p → GoodHistory n (file p m)
+pub file-good : (S : Seat) (p : History) (m : Meaning) → WritableMeaning (S .terms .n) m → GoodHistory S p → GoodHistory S (file p m)
 unfolding file
-file-good n p (logMessage c) w g = record {
-  heard = λ m i. elim (List·Memᴰ·cases-cons i) [ inl e ↦ subst (Writable n) (sym e) w | inr j ↦ g .heard m j ];
+file-good S p (logMessage c) w g = record {
+  heard = λ m i. elim (List·Memᴰ·cases-cons i) [ inl e ↦ subst (Writable (S .terms .n)) (sym e) w | inr j ↦ g .heard m j ];
   proposals = g .proposals;
   priorities = g .priorities;
 }
-file-good n p (proposalMessage c priority) w g = record {
+file-good S p (proposalMessage c priority) w g = record {
   heard = g .heard;
   proposals = λ o i. elim (List·Memᴰ·cases-cons i) [
-    | inl e ↦ subst (λ (x : ProposalHeard). Writable n (x .content)) (sym e) (w .0)
+    | inl e ↦ subst (λ (x : ProposalHeard). Writable (S .terms .n) (x .content)) (sym e) (w .0)
     | inr j ↦ g .proposals o j
   ];
   priorities = λ o i. elim (List·Memᴰ·cases-cons i) [
@@ -215,39 +216,39 @@ file-good n p (proposalMessage c priority) w g = record {
   ];
 }
 
-fileRead-good : (n : ℕ) (p : History) (r : Reading) → ((m : Meaning) → r ≡ means m → WritableMeaning n m) → GoodHistory n p
-    → GoodHistory n (fileRead p r)
-fileRead-good n p (refused k) w g = g
-fileRead-good n p (means m) w g = file-good n p m (w m refl) g
+fileRead-good : (S : Seat) (p : History) (r : Reading) → ((m : Meaning) → r ≡ means m → WritableMeaning (S .terms .n) m) → GoodHistory S p
+    → GoodHistory S (fileRead p r)
+fileRead-good S p (refused k) w g = g
+fileRead-good S p (means m) w g = file-good S p m (w m refl) g
 
-fileMade-good : (n : ℕ) (p : History) (o : Option Meaning) → GoodMade n o → GoodHistory n p → GoodHistory n (fileMade p o)
-fileMade-good n p none w g = g
-fileMade-good n p (some m) w g = file-good n p m w g
+fileMade-good : (S : Seat) (p : History) (o : Option Meaning) → GoodMade S o → GoodHistory S p → GoodHistory S (fileMade p o)
+fileMade-good S p none w g = g
+fileMade-good S p (some m) w g = file-good S p m w g
 
 -- a call that is accepted; a message received is within the limits once it can be read
-pub good-accepted : (n own : ℕ) (p : History) (c : Call) → own < n → Typed c → GoodHistory n p → GoodHistory n (accepted n own p c)
+pub good-accepted : (S : Seat) (p : History) (c : Call) → S .own < S .terms .n → Typed c → GoodHistory S p → GoodHistory S (accepted S p c)
 unfolding accepted
-good-accepted n own p (begin b) lo t g = record { heard = g .heard; proposals = g .proposals; priorities = g .priorities }
-good-accepted n own p (receive bytes) lo t g = fileRead-good n p (readOf n bytes) (λ m e. read-writable n bytes m (t .0) e) g
-good-accepted n own p (act block priority out) lo t g =
-    fileMade-good n (closed p (madeBy n own p block priority) (decidedBy n p)) (madeBy n own p block priority)
-    (made n own block priority lo (t .0) (t .1) (t .2) p g)
+good-accepted S p (begin b) lo t g = record { heard = g .heard; proposals = g .proposals; priorities = g .priorities }
+good-accepted S p (receive bytes) lo t g = fileRead-good S p (readOf (S .terms .n) bytes) (λ m e. read-writable (S .terms .n) bytes m (t .0) e) g
+good-accepted S p (act block priority out) lo t g =
+    fileMade-good S (closed p (madeBy S p block priority) (decidedBy S p)) (madeBy S p block priority)
+    (made S block priority lo (t .0) (t .1) (t .2) p g)
     (record { heard = g .heard; proposals = g .proposals; priorities = g .priorities })
 
 -- every call, and every list of calls
-pub step-good : (n own : ℕ) (p : History) (c : Call) → own < n → Typed c → GoodHistory n p → GoodHistory n (step n own p c)
+pub step-good : (S : Seat) (p : History) (c : Call) → S .own < S .terms .n → Typed c → GoodHistory S p → GoodHistory S (step S p c)
 unfolding step
-step-good n own p c lo t g = go (refusal n p c)
+step-good S p c lo t g = go (refusal S p c)
   where
-    go : (r : Option ℕ) → GoodHistory n (orAccepted r p (accepted n own p c))
-    go none = good-accepted n own p c lo t g
+    go : (r : Option ℕ) → GoodHistory S (orAccepted r p (accepted S p c))
+    go none = good-accepted S p c lo t g
     go (some k) = g
 
-from-good : (n own : ℕ) (p : History) (cs : List Call) → own < n → AllTyped cs → GoodHistory n p → GoodHistory n (afterFrom n own p cs)
+from-good : (S : Seat) (p : History) (cs : List Call) → S .own < S .terms .n → AllTyped cs → GoodHistory S p → GoodHistory S (afterFrom S p cs)
 unfolding afterFrom
-from-good n own p [] lo t g = g
-from-good n own p (c ∷ cs) lo t g = from-good n own (step n own p c) cs lo (t .1) (step-good n own p c lo (t .0) g)
+from-good S p [] lo t g = g
+from-good S p (c ∷ cs) lo t g = from-good S (step S p c) cs lo (t .1) (step-good S p c lo (t .0) g)
 
-pub after-good : (n own : ℕ) (cs : List Call) → own < n → AllTyped cs → GoodHistory n (after n own cs)
+pub after-good : (S : Seat) (cs : List Call) → S .own < S .terms .n → AllTyped cs → GoodHistory S (after S cs)
 unfolding after
-after-good n own cs lo t = from-good n own fresh cs lo t (fresh-good n)
+after-good S cs lo t = from-good S (fresh S) cs lo t (fresh-good S)

@@ -1,4 +1,6 @@
 -- Laws of the definitions in specs/, and the theorems. The layer above cites these.
+-- What a volume weighs:
+pub mod TermsLaws
 -- One call of the history; what it takes, makes and decides keeps to the message's limits:
 pub mod CallLaws
 pub mod GoodHistory

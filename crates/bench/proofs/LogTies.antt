@@ -20,6 +20,7 @@ use Rattle.agreement.specs.declared.Proposals.{Proposals}
 use Rattle.agreement.proofs.KeptLaws.{file-word, file-kept, file-apart, file-rest}
 use Rattle.agreement.proofs.ElsewhereLaws.{Elsewhere, file-elsewhere}
 use Rattle.agreement.proofs.KeptOfLaws.{heard-same, heard-other}
+use Rattle.bench.specs.Terms.{Seat}
 use Rattle.bench.specs.Calls.{State}
 use Rattle.bench.specs.Layout.{logsPlace, decidedPlace, Lent}
 use Rattle.bench.specs.Calendar.{lastView, inputBeat, closeBeat}
@@ -53,7 +54,7 @@ module _ {b w : ℕ} {l k : Lent} (d : Elsewhere b w (l .names) (l .counts) (k .
 
 -- ---- a LOG
 
-module _ (n own : ℕ) (s : State) (p : History) (t : Tie n own s p) (bytes : List ℕ) (m : Content) (good : Writable n m) (c : Carries bytes (m .log))
+module _ (S : Seat) (s : State) (p : History) (t : Tie S s p) (bytes : List ℕ) (m : Content) (good : Writable (S .terms .n) m) (c : Carries bytes (m .log))
     (late : inputBeat (m .view) < s .bench .next) (soon : s .bench .next ≤ closeBeat (m .view) + 1) where
   abbrev b : Bench
   b = s .bench
@@ -158,7 +159,7 @@ module _ (n own : ℕ) (s : State) (p : History) (t : Tie n own s p) (bytes : Li
       }
 
   -- record and history are tied after it
-  pub log-tie : Tie n own (record { bench = b′; lent = k }) q
+  pub log-tie : Tie S (record { bench = b′; lent = k }) q
   unfolding file
   log-tie =
       let e = agreement-rest b (m .view) (r .agreement) in
@@ -178,5 +179,5 @@ module _ (n own : ℕ) (s : State) (p : History) (t : Tie n own s p) (bytes : Li
         gathering-is = (λ i. not (not (ga i) || eqb (nx i) 0)) ∙ t .gathering-is;
         filled = filled-now;
         stand-is = (λ i. record { log = logAt (r .names) (r .counts) decidedPlace (x i); parted = y i }) ∙ (λ i. record { log = same i; parted = b .parted }) ∙ t .stand-is;
-        good = file-good n p (logMessage m) good (t .good);
+        good = file-good S p (logMessage m) good (t .good);
       }

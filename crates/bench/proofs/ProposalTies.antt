@@ -18,6 +18,7 @@ use Rattle.agreement.specs.declared.Proposals.{Proposals}
 use Rattle.agreement.proofs.KeptLaws.{proposal-word, proposal-kept, proposal-apart}
 use Rattle.agreement.proofs.ElsewhereLaws.{Elsewhere, proposal-elsewhere}
 use Rattle.agreement.proofs.KeptOfLaws.{proposals-same, proposals-other}
+use Rattle.bench.specs.Terms.{Seat}
 use Rattle.bench.specs.Calls.{State}
 use Rattle.bench.specs.Layout.{proposalsPlace, decidedPlace, Lent}
 use Rattle.bench.specs.Calendar.{viewBeat, inputBeat}
@@ -34,7 +35,7 @@ use Rattle.bench.proofs.Ties.{HoldsProposals, Filled, Tie}
 use Rattle.bench.proofs.LogTies.{Carries, roomy-elsewhere}
 use Rattle.bench.proofs.Filling.{logs-low, holds-same, holds-elsewhere, proposals-views}
 
-module _ (n own : ℕ) (s : State) (p : History) (t : Tie n own s p) (bytes : List ℕ) (m : Content) (priority : ℕ) (good : Writable n m) (small : priority < 2 ^ 64)
+module _ (S : Seat) (s : State) (p : History) (t : Tie S s p) (bytes : List ℕ) (m : Content) (priority : ℕ) (good : Writable (S .terms .n) m) (small : priority < 2 ^ 64)
     (c : Carries bytes (m .log)) (late : viewBeat (m .view) < s .bench .next) (soon : s .bench .next ≤ inputBeat (m .view) + 1) where
   abbrev bench : Bench
   bench = s .bench
@@ -127,7 +128,7 @@ module _ (n own : ℕ) (s : State) (p : History) (t : Tie n own s p) (bytes : Li
         };
   }
 
-  pub proposal-tie : Tie n own (record { bench = withProposals bench (after .proposals); lent = lists }) then
+  pub proposal-tie : Tie S (record { bench = withProposals bench (after .proposals); lent = lists }) then
   unfolding file
   proposal-tie =
       let h = t .fine .decided in
@@ -143,5 +144,5 @@ module _ (n own : ℕ) (s : State) (p : History) (t : Tie n own s p) (bytes : Li
         gathering-is = t .gathering-is;
         filled = filled-then;
         stand-is = (λ i. record { log = same i; parted = bench .parted }) ∙ t .stand-is;
-        good = file-good n p (proposalMessage m priority) (good, small) (t .good);
+        good = file-good S p (proposalMessage m priority) (good, small) (t .good);
       }

@@ -18,6 +18,7 @@ use Rattle.agreement.specs.Kept.{Kept, Proposed, keptLog, keptProposal}
 use Rattle.agreement.specs.Heard.{heardLogs, gradeNow, gradeWith, heardProposals, voteAmong}
 use Rattle.agreement.specs.declared.Agreement.{Agreement}
 use Rattle.agreement.proofs.RecordLaws.{Within, grade-zero, grade-one, grade-two, gradeNow-cong, gradeWith-cong, vote-kept}
+use Rattle.bench.specs.Terms.{Seat, weightOf}
 use Rattle.bench.specs.Calls.{State}
 use Rattle.bench.specs.Layout.{logsPlace, proposalsPlace}
 use Rattle.bench.specs.Calendar.{lastView, lastBeat, inputBeat, closeBeat, viewOf, placeIn, actAt}
@@ -41,7 +42,7 @@ within-fine n g few f = record {
   short = λ i l. f .sender i .short;
 }
 
-module _ (n own : ℕ) (s : State) (p : History) (t : Tie n own s p) where
+module _ (S : Seat) (s : State) (p : History) (t : Tie S s p) where
   abbrev b : Bench
   b = s .bench
 
@@ -64,45 +65,45 @@ module _ (n own : ℕ) (s : State) (p : History) (t : Tie n own s p) where
     within : Within (b .n) g
     within = within-fine (b .n) g (t .fine .few) (agreement-fine b u low (t .fine))
 
-    candidate-same : candidateOf s (suc u) ≡ candidateAt n p (suc u)
-    unfolding candidateOf candidateAt
+    candidate-same : candidateOf s (suc u) ≡ candidateAt S p (suc u)
+    unfolding candidateOf candidateAt weightOf
     candidate-same =
         grade-zero (b .n) (s .lent .names) (s .lent .counts) (logsPlace u) g within (room u)
-        ∙ ap (λ (k : ℕ). gradeNow k (keptLog (s .lent .names) (s .lent .counts) (logsPlace u) g)) (t .n-is)
-        ∙ gradeNow-cong n (keptLog (s .lent .names) (s .lent .counts) (logsPlace u) g) (heardLogs (p .heard) u) (λ i l. held .logs i)
+        ∙ ap (λ (k : ℕ). gradeNow k (weightOf (S .terms)) (keptLog (s .lent .names) (s .lent .counts) (logsPlace u) g)) (t .n-is)
+        ∙ gradeNow-cong (S .terms .n) (weightOf (S .terms)) (keptLog (s .lent .names) (s .lent .counts) (logsPlace u) g) (heardLogs (p .heard) u) (λ i l. held .logs i)
 
-    lock-same : lockOf s (suc u) ≡ lockAt n p (suc u)
-    unfolding lockOf lockAt
+    lock-same : lockOf s (suc u) ≡ lockAt S p (suc u)
+    unfolding lockOf lockAt weightOf
     lock-same =
         grade-one (b .n) (s .lent .names) (s .lent .counts) (logsPlace u) g within (room u)
-        ∙ ap (λ (k : ℕ). gradeWith k (keptLog (s .lent .names) (s .lent .counts) (logsPlace u) g) (pick (g .hastwo) (some (member (g .two))) none)) (t .n-is)
-        ∙ gradeWith-cong n (keptLog (s .lent .names) (s .lent .counts) (logsPlace u) g) (heardLogs (p .heard) u) (λ i l. held .logs i) (pick (g .hastwo) (some (member (g .two))) none)
-        ∙ ap (gradeWith n (heardLogs (p .heard) u)) (held .two)
+        ∙ ap (λ (k : ℕ). gradeWith k (weightOf (S .terms)) (keptLog (s .lent .names) (s .lent .counts) (logsPlace u) g) (pick (g .hastwo) (some (member (g .two))) none)) (t .n-is)
+        ∙ gradeWith-cong (S .terms .n) (weightOf (S .terms)) (keptLog (s .lent .names) (s .lent .counts) (logsPlace u) g) (heardLogs (p .heard) u) (λ i l. held .logs i) (pick (g .hastwo) (some (member (g .two))) none)
+        ∙ ap (gradeWith (S .terms .n) (weightOf (S .terms)) (heardLogs (p .heard) u)) (held .two)
 
-    decision-same : decisionOf s (suc u) ≡ decisionAt n p (suc u)
-    unfolding decisionOf decisionAt
+    decision-same : decisionOf s (suc u) ≡ decisionAt S p (suc u)
+    unfolding decisionOf decisionAt weightOf
     decision-same =
         grade-two (b .n) (s .lent .names) (s .lent .counts) (logsPlace u) g within (room u)
-        ∙ ap (λ (k : ℕ). gradeWith k (keptLog (s .lent .names) (s .lent .counts) (logsPlace u) g) (pick (g .hasone) (some (member (g .one))) none)) (t .n-is)
-        ∙ gradeWith-cong n (keptLog (s .lent .names) (s .lent .counts) (logsPlace u) g) (heardLogs (p .heard) u) (λ i l. held .logs i) (pick (g .hasone) (some (member (g .one))) none)
-        ∙ ap (gradeWith n (heardLogs (p .heard) u)) (held .one)
+        ∙ ap (λ (k : ℕ). gradeWith k (weightOf (S .terms)) (keptLog (s .lent .names) (s .lent .counts) (logsPlace u) g) (pick (g .hasone) (some (member (g .one))) none)) (t .n-is)
+        ∙ gradeWith-cong (S .terms .n) (weightOf (S .terms)) (keptLog (s .lent .names) (s .lent .counts) (logsPlace u) g) (heardLogs (p .heard) u) (λ i l. held .logs i) (pick (g .hasone) (some (member (g .one))) none)
+        ∙ ap (gradeWith (S .terms .n) (weightOf (S .terms)) (heardLogs (p .heard) u)) (held .one)
 
   -- ---- the vote
 
-  choose-same : (v : ℕ) → v ≤ lastView → b .next ≤ inputBeat v + 1 → (L : Log) → seenOf s v .choose L ≡ seenAt n p v .choose L
+  choose-same : (v : ℕ) → v ≤ lastView → b .next ≤ inputBeat v + 1 → (L : Log) → seenOf s v .choose L ≡ seenAt S p v .choose L
   choose-same v low still L =
       let f = proposals-fine b v low (t .fine) in
       let kept = keptProposal (s .lent .names) (s .lent .counts) proposalsPlace (proposalsOf b v) in
       let same : kept ≡ heardProposals (p .proposals) v = fun-ext (λ i. t .filled .proposals v low still i) in
       vote-kept (b .n) (s .lent .names) (s .lent .counts) proposalsPlace (proposalsOf b v) L (t .fine .few) (λ i h l. f .proposer i .not-filed h) (λ i h l. f .proposer i .not-aside h)
       ∙ ap (λ (k : ℕ). voteAmong k kept L) (t .n-is)
-      ∙ ap (λ (x : ℕ → Kept Proposed). voteAmong n x L) same
+      ∙ ap (λ (x : ℕ → Kept Proposed). voteAmong (S .terms .n) x L) same
 
-  votes-same : (v : ℕ) (lock : Option Log) → v ≤ lastView → b .next ≤ inputBeat v + 1 → vote own v (seenOf s v .choose) lock ≡ vote own v (seenAt n p v .choose) lock
+  votes-same : (v : ℕ) (lock : Option Log) → v ≤ lastView → b .next ≤ inputBeat v + 1 → vote (S .own) v (seenOf s v .choose) lock ≡ vote (S .own) v (seenAt S p v .choose) lock
   unfolding vote
   votes-same v none low still = refl
   votes-same v (some L) low still =
-      ap {B = Option Meaning} (λ (M : Log). some (logMessage (record { sender = own; view = v; log = M }))) (choose-same v low still L)
+      ap {B = Option Meaning} (λ (M : Log). some (logMessage (record { sender = S .own; view = v; log = M }))) (choose-same v low still L)
 
   -- ---- what is made, and what is decided, at the beat that it is
 
@@ -110,25 +111,25 @@ module _ (n own : ℕ) (s : State) (p : History) (t : Tie n own s p) where
     in-limit : beat ≤ lastBeat
     in-limit = let e = t .fine .next in omega arith
 
-    pub makes-same : (v r : ℕ) → viewOf beat ≡ v → placeIn beat ≡ r → makes own v block priority (seenOf s v) (actAt r) ≡ makes own v block priority (seenAt n p v) (actAt r)
+    pub makes-same : (v r : ℕ) → viewOf beat ≡ v → placeIn beat ≡ r → makes (S .own) v block priority (seenOf s v) (actAt r) ≡ makes (S .own) v block priority (seenAt S p v) (actAt r)
     unfolding makes candidateOf candidateAt lockOf lockAt
     makes-same zero zero ev er = refl
     makes-same (suc u) zero ev er =
         let l = in-limit in
-        ap (λ (C : Option Log). inViews (suc u) (propose own (suc u) block priority C)) (candidate-same u (omega arith) (omega arith))
+        ap (λ (C : Option Log). inViews (suc u) (propose (S .own) (suc u) block priority C)) (candidate-same u (omega arith) (omega arith))
     makes-same zero (suc zero) ev er = ap (inViews 0) (votes-same 0 (some []) (omega arith) (omega arith))
     makes-same (suc u) (suc zero) ev er =
         let l = in-limit in
         either (isView (suc u))
         (λ i. ap (inViews (suc u))
         (votes-same (suc u) (lockOf s (suc u)) (leb-true (suc u) lastView i) (omega arith)
-        ∙ ap (vote own (suc u) (seenAt n p (suc u) .choose)) (lock-same u (omega arith) (omega arith))))
+        ∙ ap (vote (S .own) (suc u) (seenAt S p (suc u) .choose)) (lock-same u (omega arith) (omega arith))))
         (λ i. rw i)
     makes-same v (suc (suc zero)) ev er = refl
     makes-same v (suc (suc (suc r))) ev er = refl
 
-    pub decides-same : (v r : ℕ) → viewOf beat ≡ v → placeIn beat ≡ r → decides (seenOf s v) (actAt r) ≡ decides (seenAt n p v) (actAt r)
-    unfolding decisionOf decisionAt
+    pub decides-same : (v r : ℕ) → viewOf beat ≡ v → placeIn beat ≡ r → decides (seenOf s v) (actAt r) ≡ decides (seenAt S p v) (actAt r)
+    unfolding decisionOf decisionAt weightOf
     decides-same v zero ev er = refl
     decides-same v (suc zero) ev er = refl
     decides-same zero (suc (suc zero)) ev er = refl

@@ -13,6 +13,7 @@ use Rattle.message.specs.Store.{logAt}
 use Rattle.message.proofs.TestLaws.{either}
 use Rattle.message.proofs.ListedLaws.{log-stored}
 use Rattle.agreement.proofs.ElsewhereLaws.{Elsewhere, put-elsewhere}
+use Rattle.bench.specs.Terms.{Seat}
 use Rattle.bench.specs.Calls.{State}
 use Rattle.bench.specs.Layout.{decidedPlace, Lent}
 use Rattle.bench.specs.Acts.{Stand, settle}
@@ -28,15 +29,15 @@ use Rattle.bench.proofs.Filling.{filled-decided}
 use Rattle.bench.proofs.LogTies.{roomy-elsewhere}
 
 -- The state x after a decision d, of a bench that was tied to p and whose gathering is over.
-pub record Settled (n own : ℕ) (s : State) (p : History) (d : Option Log) (x : State) : Type 0 where
-  pub n-is : x .bench .n ≡ n
-  pub own-is : x .bench .own ≡ own
+pub record Settled (S : Seat) (s : State) (p : History) (d : Option Log) (x : State) : Type 0 where
+  pub n-is : x .bench .n ≡ S .terms .n
+  pub own-is : x .bench .own ≡ S .own
   pub next-is : x .bench .next ≡ s .bench .next
   pub at-rest : x .bench .gathering ≡ false
   pub fine : Fine (x .bench)
   pub roomy : Roomy (x .lent)
   pub filled : Filled (x .bench) (x .lent) p
-  pub stand-is : standing x ≡ settle (standIn (p .actions)) d
+  pub stand-is : standing x ≡ settle (standIn (S .stood) (p .actions)) d
 
 -- a record with the same agreements, proposals and beat holds the same
 same-filled : {b c : Bench} {l : Lent} {p : History} → c .next ≡ b .next → c .even ≡ b .even → c .odd ≡ b .odd → c .proposals ≡ b .proposals → Filled b l p → Filled c l p
@@ -47,12 +48,12 @@ same-filled e f g h x = record {
   since = rw e (x .since);
 }
 
-module _ (n own : ℕ) (s : State) (p : History) (t : Tie n own s p) where
+module _ (S : Seat) (s : State) (p : History) (t : Tie S s p) where
   over-filled : Filled (withGatheringOver (s .bench)) (s .lent) p
   over-filled = same-filled refl refl refl refl (t .filled)
 
   -- nothing to decide
-  none-settled : Settled n own s p none (settled (over s) none)
+  none-settled : Settled S s p none (settled (over s) none)
   unfolding settled settle
   none-settled = record {
     n-is = t .n-is;
@@ -85,24 +86,24 @@ module _ (n own : ℕ) (s : State) (p : History) (t : Tie n own s p) where
       lent = record { names = put (s .lent .names) decidedPlace (namesOf L); counts = put (s .lent .counts) decidedPlace (countsOf L) };
     }
 
-    stands : decidedLog s ≡ standIn (p .actions) .log
+    stands : decidedLog s ≡ standIn (S .stood) (p .actions) .log
     stands = ap (λ (x : Stand). x .log) (t .stand-is)
 
-    marked : s .bench .parted ≡ standIn (p .actions) .parted
+    marked : s .bench .parted ≡ standIn (S .stood) (p .actions) .parted
     marked = ap (λ (x : Stand). x .parted) (t .stand-is)
 
     -- it extends what stands, is a prefix of it, or conflicts with it
-    some-settled : Settled n own s p (some L) (settled (over s) (some L))
+    some-settled : Settled S s p (some L) (settled (over s) (some L))
     unfolding settled settle
     some-settled =
         either (isPrefix (decidedLog s) L)
         (λ e.
-        let e′ : isPrefix (standIn (p .actions) .log) L ≡ true = ap (λ (x : Log). isPrefix x L) (sym stands) ∙ e in
+        let e′ : isPrefix (standIn (S .stood) (p .actions) .log) L ≡ true = ap (λ (x : Log). isPrefix x L) (sym stands) ∙ e in
         let a = there in
         let m = marked in
-        let st : standing replaced ≡ record { log = L; parted = standIn (p .actions) .parted } =
+        let st : standing replaced ≡ record { log = L; parted = standIn (S .stood) (p .actions) .parted } =
         λ i. record { log = a i; parted = m i } in
-        let z : settle (standIn (p .actions)) (some L) ≡ record { log = L; parted = standIn (p .actions) .parted } = rw e′ in
+        let z : settle (standIn (S .stood) (p .actions)) (some L) ≡ record { log = L; parted = standIn (S .stood) (p .actions) .parted } = rw e′ in
         rw e (record {
           n-is = t .n-is;
           own-is = t .own-is;
@@ -115,9 +116,9 @@ module _ (n own : ℕ) (s : State) (p : History) (t : Tie n own s p) where
         }))
         (λ e. either (isPrefix L (decidedLog s))
         (λ f.
-        let e′ : isPrefix (standIn (p .actions) .log) L ≡ false = ap (λ (x : Log). isPrefix x L) (sym stands) ∙ e in
-        let f′ : isPrefix L (standIn (p .actions) .log) ≡ true = ap (isPrefix L) (sym stands) ∙ f in
-        let z : settle (standIn (p .actions)) (some L) ≡ standIn (p .actions) = rw (e′, f′) in
+        let e′ : isPrefix (standIn (S .stood) (p .actions) .log) L ≡ false = ap (λ (x : Log). isPrefix x L) (sym stands) ∙ e in
+        let f′ : isPrefix L (standIn (S .stood) (p .actions) .log) ≡ true = ap (isPrefix L) (sym stands) ∙ f in
+        let z : settle (standIn (S .stood) (p .actions)) (some L) ≡ standIn (S .stood) (p .actions) = rw (e′, f′) in
         rw (e, f) (record {
           n-is = t .n-is;
           own-is = t .own-is;
@@ -129,12 +130,12 @@ module _ (n own : ℕ) (s : State) (p : History) (t : Tie n own s p) where
           stand-is = t .stand-is ∙ sym z;
         }))
         (λ f.
-        let e′ : isPrefix (standIn (p .actions) .log) L ≡ false = ap (λ (x : Log). isPrefix x L) (sym stands) ∙ e in
-        let f′ : isPrefix L (standIn (p .actions) .log) ≡ false = ap (isPrefix L) (sym stands) ∙ f in
+        let e′ : isPrefix (standIn (S .stood) (p .actions) .log) L ≡ false = ap (λ (x : Log). isPrefix x L) (sym stands) ∙ e in
+        let f′ : isPrefix L (standIn (S .stood) (p .actions) .log) ≡ false = ap (isPrefix L) (sym stands) ∙ f in
         let a = stands in
-        let st : standing (record { bench = withParted (withGatheringOver (s .bench)); lent = s .lent }) ≡ record { log = standIn (p .actions) .log; parted = true } =
+        let st : standing (record { bench = withParted (withGatheringOver (s .bench)); lent = s .lent }) ≡ record { log = standIn (S .stood) (p .actions) .log; parted = true } =
         λ i. record { log = a i; parted = true } in
-        let z : settle (standIn (p .actions)) (some L) ≡ record { log = standIn (p .actions) .log; parted = true } = rw (e′, f′) in
+        let z : settle (standIn (S .stood) (p .actions)) (some L) ≡ record { log = standIn (S .stood) (p .actions) .log; parted = true } = rw (e′, f′) in
         rw (e, f) (record {
           n-is = t .n-is;
           own-is = t .own-is;
@@ -147,6 +148,6 @@ module _ (n own : ℕ) (s : State) (p : History) (t : Tie n own s p) where
         })))
 
   -- whatever there is to decide
-  pub decision-settled : (d : Option Log) → ((L : Log) → d ≡ some L → GoodLog L) → Settled n own s p d (settled (over s) d)
+  pub decision-settled : (d : Option Log) → ((L : Log) → d ≡ some L → GoodLog L) → Settled S s p d (settled (over s) d)
   decision-settled none good = none-settled
   decision-settled (some L) good = some-settled L (good L refl)

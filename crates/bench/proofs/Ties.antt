@@ -15,6 +15,7 @@ use Rattle.agreement.specs.Kept.{keptLog, keptProposal}
 use Rattle.agreement.specs.Heard.{heardLogs, ProposalHeard, heardProposals}
 use Rattle.agreement.specs.declared.Agreement.{Agreement}
 use Rattle.agreement.specs.declared.Proposals.{Proposals}
+use Rattle.bench.specs.Terms.{Seat}
 use Rattle.bench.specs.Calls.{State}
 use Rattle.bench.specs.Layout.{logsPlace, proposalsPlace, leastLent, Lent}
 use Rattle.bench.specs.Calendar.{lastView, viewBeat, inputBeat, snapshotOneBeat, snapshotTwoBeat, closeBeat}
@@ -62,16 +63,16 @@ abbrev pub lastOf : ℕ → Option ℕ
 lastOf zero = none
 lastOf (suc b) = some b
 
-pub record Tie (n own : ℕ) (s : State) (p : History) : Type 0 where
-  pub n-is : s .bench .n ≡ n
-  pub own-is : s .bench .own ≡ own
+pub record Tie (S : Seat) (s : State) (p : History) : Type 0 where
+  pub n-is : s .bench .n ≡ S .terms .n
+  pub own-is : s .bench .own ≡ S .own
   pub fine : Fine (s .bench)
   pub roomy : Roomy (s .lent)
   pub last-is : lastOf (s .bench .next) ≡ p .last
   pub gathering-is : not (idle (s .bench)) ≡ p .gathering
   pub filled : Filled (s .bench) (s .lent) p
-  pub stand-is : standing s ≡ standIn (p .actions)
-  pub good : GoodHistory n p
+  pub stand-is : standing s ≡ standIn (S .stood) (p .actions)
+  pub good : GoodHistory S p
 
 -- ---- nothing was done at a beat still to come
 

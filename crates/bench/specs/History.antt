@@ -9,10 +9,11 @@ use lib.Dec.{eqb, leb, ltb}
 use lib.ListN.{length}
 use Rattle.message.specs.Choice.{pick}
 use Rattle.message.specs.Logs.{Block, Log, sameLog}
-use Rattle.message.specs.Message.{Content, Meaning, logMessage, proposalMessage, Reading, refused as unread, means, readOf}
+use Rattle.message.specs.Message.{Content, Meaning, logMessage, proposalMessage, Reading, refused as unread, means}
 use Rattle.agreement.specs.Filing.{Word}
 use Rattle.agreement.specs.Kept.{wordOn, sameProposal}
 use Rattle.agreement.specs.Heard.{heardLogs, votersOf, gradeNow, gradeWith, ProposalHeard, heardProposals, voteAmong}
+use Rattle.bench.specs.Terms.{Seat, weightOf, readIn}
 use Rattle.bench.specs.Layout.{Lent, shortLists, outOfRange, mostBytes}
 use Rattle.bench.specs.Calendar.{lastBeat, snapshotOneBeat, snapshotTwoBeat, viewOf, placeIn, actAt}
 use Rattle.bench.specs.Calls.{Call, begin, receive, act, bufferIn, Reply, refused, done, took, acted, Answer, openTo}
@@ -40,9 +41,9 @@ pub record History : Type 0 where
   pub proposals : List ProposalHeard
   pub actions : List ActRecord
 
--- as Open gives it
-abbrev pub fresh : History
-fresh = record { last = none; gathering = false; heard = []; proposals = []; actions = [] }
+-- at the start
+abbrev pub fresh : Seat → History
+fresh S = record { last = S .last; gathering = false; heard = []; proposals = []; actions = [] }
 
 -- the beat of the last Begin; where there is none, no message is taken and no act done
 abbrev pub orZero : Option ℕ → ℕ
@@ -55,8 +56,8 @@ beatNow p = orZero (p .last)
 -- ---- refusals: 9 never arises here, and 8 at Open only
 
 -- Open: 7, n or own number out of range; 8, a lent list too short
-unfoldable pub openRefusal : ℕ → ℕ → Lent → Option ℕ
-openRefusal n own l = pick (outOfRange n own) (some 7) (pick (shortLists l) (some 8) none)
+unfoldable pub openRefusal : Seat → Lent → Option ℕ
+openRefusal S l = pick (outOfRange (S .terms .n) (S .own)) (some 7) (pick (shortLists l) (some 8) none)
 
 abbrev pub notAbove : ℕ → Option ℕ → Bool
 notAbove b none = false
@@ -71,17 +72,17 @@ abbrev pub readingRefusal : ℕ → Reading → Option ℕ
 readingRefusal b (unread k) = some k
 readingRefusal b (means m) = pick (not (openTo m b)) (some 21) none
 
-abbrev pub receiveRefusal : ℕ → History → List ℕ → Option ℕ
-receiveRefusal n p bytes = pick (not (p .gathering)) (some 22) (readingRefusal (beatNow p) (readOf n bytes))
+abbrev pub receiveRefusal : Seat → History → List ℕ → Option ℕ
+receiveRefusal S p bytes = pick (not (p .gathering)) (some 22) (readingRefusal (beatNow p) (readIn (S .terms) bytes))
 
 -- Act: 11, an outgoing buffer too short for the longest message; 22
 abbrev pub actRefusal : History → List ℕ → Option ℕ
 actRefusal p out = pick (ltb (length out) mostBytes) (some 11) (pick (not (p .gathering)) (some 22) none)
 
-unfoldable pub refusal : ℕ → History → Call → Option ℕ
-refusal n p (begin b) = beginRefusal p b
-refusal n p (receive bytes) = receiveRefusal n p bytes
-refusal n p (act block priority out) = actRefusal p out
+unfoldable pub refusal : Seat → History → Call → Option ℕ
+refusal S p (begin b) = beginRefusal p b
+refusal S p (receive bytes) = receiveRefusal S p bytes
+refusal S p (act block priority out) = actRefusal p out
 
 -- ---- filing
 
@@ -117,35 +118,35 @@ snapshotOf u none = none
 snapshotOf u (some heard) = some (votersOf (heardLogs heard u))
 
 -- the longest log of grade 0 of GA v-1; the empty log for v = 0
-unfoldable pub candidateAt : ℕ → History → ℕ → Option Log
-candidateAt n p zero = some []
-candidateAt n p (suc u) = gradeNow n (heardLogs (p .heard) u)
+unfoldable pub candidateAt : Seat → History → ℕ → Option Log
+candidateAt S p zero = some []
+candidateAt S p (suc u) = gradeNow (S .terms .n) (weightOf (S .terms)) (heardLogs (p .heard) u)
 
 -- of grade 1, with snapshot two; the empty log for v = 0
-unfoldable pub lockAt : ℕ → History → ℕ → Option Log
-lockAt n p zero = some []
-lockAt n p (suc u) = gradeWith n (heardLogs (p .heard) u) (snapshotOf u (heardAt (p .actions) (snapshotTwoBeat u)))
+unfoldable pub lockAt : Seat → History → ℕ → Option Log
+lockAt S p zero = some []
+lockAt S p (suc u) = gradeWith (S .terms .n) (weightOf (S .terms)) (heardLogs (p .heard) u) (snapshotOf u (heardAt (p .actions) (snapshotTwoBeat u)))
 
 -- of grade 2, with snapshot one; none for v = 0
-unfoldable pub decisionAt : ℕ → History → ℕ → Option Log
-decisionAt n p zero = none
-decisionAt n p (suc u) = gradeWith n (heardLogs (p .heard) u) (snapshotOf u (heardAt (p .actions) (snapshotOneBeat u)))
+unfoldable pub decisionAt : Seat → History → ℕ → Option Log
+decisionAt S p zero = none
+decisionAt S p (suc u) = gradeWith (S .terms .n) (weightOf (S .terms)) (heardLogs (p .heard) u) (snapshotOf u (heardAt (p .actions) (snapshotOneBeat u)))
 
-abbrev pub seenAt : ℕ → History → ℕ → Seen
-seenAt n p v = record {
-  candidate = candidateAt n p v;
-  lock = lockAt n p v;
-  decision = decisionAt n p v;
-  choose = voteAmong n (heardProposals (p .proposals) v);
+abbrev pub seenAt : Seat → History → ℕ → Seen
+seenAt S p v = record {
+  candidate = candidateAt S p v;
+  lock = lockAt S p v;
+  decision = decisionAt S p v;
+  choose = voteAmong (S .terms .n) (heardProposals (p .proposals) v);
 }
 
 -- what an Act makes and decides at the beat that it is
-unfoldable pub madeBy : ℕ → ℕ → History → Block → ℕ → Option Meaning
-madeBy n own p block priority =
-    makes own (viewOf (beatNow p)) block priority (seenAt n p (viewOf (beatNow p))) (actAt (placeIn (beatNow p)))
+unfoldable pub madeBy : Seat → History → Block → ℕ → Option Meaning
+madeBy S p block priority =
+    makes (S .own) (viewOf (beatNow p)) block priority (seenAt S p (viewOf (beatNow p))) (actAt (placeIn (beatNow p)))
 
-unfoldable pub decidedBy : ℕ → History → Option Log
-decidedBy n p = decides (seenAt n p (viewOf (beatNow p))) (actAt (placeIn (beatNow p)))
+unfoldable pub decidedBy : Seat → History → Option Log
+decidedBy S p = decides (seenAt S p (viewOf (beatNow p))) (actAt (placeIn (beatNow p)))
 
 -- ---- one call
 
@@ -169,23 +170,23 @@ closed p made decided =
     }
 
 -- a call that is not refused: the history after it
-unfoldable pub accepted : ℕ → ℕ → History → Call → History
-accepted n own p (begin b) =
+unfoldable pub accepted : Seat → History → Call → History
+accepted S p (begin b) =
     record { last = some b; gathering = true; heard = p .heard; proposals = p .proposals; actions = p .actions }
-accepted n own p (receive bytes) = fileRead p (readOf n bytes)
-accepted n own p (act block priority out) =
-    fileMade (closed p (madeBy n own p block priority) (decidedBy n p)) (madeBy n own p block priority)
+accepted S p (receive bytes) = fileRead p (readIn (S .terms) bytes)
+accepted S p (act block priority out) =
+    fileMade (closed p (madeBy S p block priority) (decidedBy S p)) (madeBy S p block priority)
 
 -- and what it answers
 abbrev pub wordRead : History → Reading → Reply
 wordRead p (unread k) = refused k
 wordRead p (means m) = took (wordFor p m)
 
-unfoldable pub acceptedAnswer : ℕ → ℕ → History → Call → Answer
-acceptedAnswer n own p (begin b) = record { reply = done; out = [] }
-acceptedAnswer n own p (receive bytes) = record { reply = wordRead p (readOf n bytes); out = [] }
-acceptedAnswer n own p (act block priority out) =
-    record { reply = acted (madeBy n own p block priority); out = outAfter (madeBy n own p block priority) out }
+unfoldable pub acceptedAnswer : Seat → History → Call → Answer
+acceptedAnswer S p (begin b) = record { reply = done; out = [] }
+acceptedAnswer S p (receive bytes) = record { reply = wordRead p (readIn (S .terms) bytes); out = [] }
+acceptedAnswer S p (act block priority out) =
+    record { reply = acted (madeBy S p block priority); out = outAfter (madeBy S p block priority) out }
 
 -- A refusal changes nothing, and answers its number alone.
 abbrev pub orAccepted : Option ℕ → History → History → History
@@ -196,40 +197,40 @@ abbrev pub orAnswered : Option ℕ → List ℕ → Answer → Answer
 orAnswered none out a = a
 orAnswered (some k) out a = record { reply = refused k; out = out }
 
-unfoldable pub step : ℕ → ℕ → History → Call → History
-step n own p c = orAccepted (refusal n p c) p (accepted n own p c)
+unfoldable pub step : Seat → History → Call → History
+step S p c = orAccepted (refusal S p c) p (accepted S p c)
 
-unfoldable pub answer : ℕ → ℕ → History → Call → Answer
-answer n own p c = orAnswered (refusal n p c) (bufferIn c) (acceptedAnswer n own p c)
+unfoldable pub answer : Seat → History → Call → Answer
+answer S p c = orAnswered (refusal S p c) (bufferIn c) (acceptedAnswer S p c)
 
 -- ---- a list of calls
 
-unfoldable pub afterFrom : ℕ → ℕ → History → List Call → History
-afterFrom n own p [] = p
-afterFrom n own p (c ∷ cs) = afterFrom n own (step n own p c) cs
+unfoldable pub afterFrom : Seat → History → List Call → History
+afterFrom S p [] = p
+afterFrom S p (c ∷ cs) = afterFrom S (step S p c) cs
 
-unfoldable pub after : ℕ → ℕ → List Call → History
-after n own cs = afterFrom n own fresh cs
+unfoldable pub after : Seat → List Call → History
+after S cs = afterFrom S (fresh S) cs
 
-unfoldable pub answersFrom : ℕ → ℕ → History → List Call → List Answer
-answersFrom n own p [] = []
-answersFrom n own p (c ∷ cs) = answer n own p c ∷ answersFrom n own (step n own p c) cs
+unfoldable pub answersFrom : Seat → History → List Call → List Answer
+answersFrom S p [] = []
+answersFrom S p (c ∷ cs) = answer S p c ∷ answersFrom S (step S p c) cs
 
-unfoldable pub answersTo : ℕ → ℕ → List Call → List Answer
-answersTo n own cs = answersFrom n own fresh cs
+unfoldable pub answersTo : Seat → List Call → List Answer
+answersTo S cs = answersFrom S (fresh S) cs
 
 -- awake at a beat: begun and acted in, neither call refused
 unfoldable pub actedAt : List ActRecord → ℕ → Bool
 actedAt [] b = false
 actedAt (d ∷ ds) b = eqb (d .beat) b || actedAt ds b
 
-unfoldable pub awake : ℕ → ℕ → List Call → ℕ → Bool
-awake n own cs b = actedAt (after n own cs .actions) b
+unfoldable pub awake : Seat → List Call → ℕ → Bool
+awake S cs b = actedAt (after S cs .actions) b
 
 -- what the decisions come to
-unfoldable pub standIn : List ActRecord → Stand
-standIn [] = record { log = []; parted = false }
-standIn (d ∷ ds) = settle (standIn ds) (d .decided)
+unfoldable pub standIn : Stand → List ActRecord → Stand
+standIn st [] = st
+standIn st (d ∷ ds) = settle (standIn st ds) (d .decided)
 
-unfoldable pub stand : ℕ → ℕ → List Call → Stand
-stand n own cs = standIn (after n own cs .actions)
+unfoldable pub stand : Seat → List Call → Stand
+stand S cs = standIn (S .stood) (after S cs .actions)

@@ -9,6 +9,7 @@ use Rattle.agreement.specs.Kept.{wordOn}
 use Rattle.agreement.specs.Heard.{someDiffers, keptOf, logsFrom, gradeNow, gradeWith, proposalsFrom, voteAmong}
 use Rattle.agreement.specs.Proposals.{bestOf}
 use Rattle.bench.specs.Acts.{propose, vote, makes, settle}
+use Rattle.bench.specs.Terms.{weightOf}
 use Rattle.bench.specs.History.{refusal, wordFor, file, heardAt, candidateAt, lockAt, decisionAt, madeBy, decidedBy, accepted, acceptedAnswer, step, answer, afterFrom, after, answersFrom, answersTo, actedAt, awake, standIn, stand}
 use Rattle.run.proofs.Decided.{decidedIn}
 use Rattle.run.proofs.ListTests.{all, any, allBelow}
@@ -18,7 +19,7 @@ use Rattle.run.proofs.TypedChecks.{typedb, volumeTypedb}
 unfoldable pub computed : Unit {0}
 unfolding
     some put numberAt numbersAt bytesFor bytesForEach isPrefix sameLog inStep namesOf countsOf messageBytes bytesOf meaningIn malformed readOf
-    weigh maySupport supports longest wordOn someDiffers keptOf logsFrom gradeNow gradeWith proposalsFrom voteAmong bestOf
+    weightOf weigh maySupport supports longest wordOn someDiffers keptOf logsFrom gradeNow gradeWith proposalsFrom voteAmong bestOf
     propose vote makes settle refusal wordFor file heardAt candidateAt lockAt decisionAt madeBy decidedBy accepted acceptedAnswer step answer
     afterFrom after answersFrom answersTo actedAt awake decidedIn standIn stand
     all any allBelow sentRead sentMade sentBy sentList sameContent madeIt actMade deliveredb numberedb majorityb typedb volumeTypedb

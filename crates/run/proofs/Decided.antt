@@ -8,6 +8,7 @@ use mathlib.Core.Bool.{true, false, false≢true}
 use Rattle.message.specs.Logs.{Log, Prefix, empty, Compatible, isPrefix}
 use Rattle.message.proofs.TestLaws.{either}
 use Rattle.message.proofs.LogLaws.{prefix-refl, prefix-trans, prefix-length, isPrefix-iff}
+use Rattle.bench.specs.Terms.{Terms, Seat, nothingStands, seatOf}
 use Rattle.bench.specs.Calls.{Call, act}
 use Rattle.bench.specs.Acts.{Stand, settle}
 use Rattle.bench.specs.History.{ActRecord, after, standIn, stand}
@@ -56,22 +57,22 @@ mem-decided (x ∷ xs) L i = go (x .decided) refl i (mem-decided xs L)
       | inr k ↦ lift (below k)
     ]
 
-module _ (n own : ℕ) (cs : List Call) where
-  pub decides-mem : (L : Log) → Decides n own cs L → Mem L (decidedIn (after n own cs .actions))
+module _ (S : Seat) (cs : List Call) where
+  pub decides-mem : (L : Log) → Decides S cs L → Mem L (decidedIn (after S cs .actions))
   decides-mem L d =
       let t = d .acts in
       let c = act (t .block) (t .priority) (t .out) in
-      let a = recordOf n own (after n own (d .pre)) (t .block) (t .priority) in
+      let a = recordOf S (after S (d .pre)) (t .block) (t .priority) in
       let e : cs ≡ (d .pre ++ (c ∷ [])) ++ t .place .0 = t .place .1 ∙ sym (append-assoc (d .pre) (c ∷ []) (t .place .0)) in
-      decided-mem (after n own cs .actions) a L
-      (subst (λ (l : List Call). Mem a (after n own l .actions)) (sym e)
-      (act-recorded n own (d .pre) (t .place .0) (t .block) (t .priority) (t .out) (t .ok)))
+      decided-mem (after S cs .actions) a L
+      (subst (λ (l : List Call). Mem a (after S l .actions)) (sym e)
+      (act-recorded S (d .pre) (t .place .0) (t .block) (t .priority) (t .out) (t .ok)))
       (d .decided)
 
-  pub mem-decides : (L : Log) → Mem L (decidedIn (after n own cs .actions)) → Decides n own cs L
+  pub mem-decides : (L : Log) → Mem L (decidedIn (after S cs .actions)) → Decides S cs L
   mem-decides L i =
-      let x = mem-decided (after n own cs .actions) L i in
-      let y = act-place n own cs cs [] (sym (append-nil cs)) (x .0) (x .1) in
+      let x = mem-decided (after S cs .actions) L i in
+      let y = act-place S cs cs [] (sym (append-nil cs)) (x .0) (x .1) in
       record {
         pre = y .pre;
         beat = x .0 .beat;
@@ -80,8 +81,8 @@ module _ (n own : ℕ) (cs : List Call) where
       }
 
 -- what is decided in a start of a list is decided in the list
-pub decides-start : (n own : ℕ) (pre post : List Call) (L : Log) → Decides n own pre L → Decides n own (pre ++ post) L
-decides-start n own pre post L d =
+pub decides-start : (S : Seat) (pre post : List Call) (L : Log) → Decides S pre L → Decides S (pre ++ post) L
+decides-start S pre post L d =
     let a = d .acts in
     record {
       pre = d .pre;
@@ -142,24 +143,24 @@ unfolding settle
 decided-more Ls st none agree below = below agree
 decided-more Ls st (some L) agree below = settle-good Ls st L agree (below (λ M K i j. agree M K (List·Memᴰ·tail i) (List·Memᴰ·tail j)))
 
-stand-good : (ds : List ActRecord) → Agreeing (decidedIn ds) → Good (decidedIn ds) (standIn ds)
+stand-good : (ds : List ActRecord) → Agreeing (decidedIn ds) → Good (decidedIn ds) (standIn nothingStands ds)
 unfolding standIn decidedIn
 stand-good [] agree = record { unmarked = refl; above = λ L i. absurd (List·Memᴰ·not-nil i); among = inr (refl, refl) }
-stand-good (d ∷ ds) agree = decided-more (decidedIn ds) (standIn ds) (d .decided) agree (stand-good ds)
+stand-good (d ∷ ds) agree = decided-more (decidedIn ds) (standIn nothingStands ds) (d .decided) agree (stand-good ds)
 
 -- Where no two logs decided in the list conflict, what stands is the longest of them, and there is no mark.
-pub stands-longest : (n own : ℕ) (cs : List Call) → ((L M : Log) → Decides n own cs L → Decides n own cs M → Compatible L M)
-    → LongestDecided n own cs (stand n own cs .log) × (stand n own cs .parted ≡ false)
+pub stands-longest : (T : Terms) (own : ℕ) (cs : List Call) → ((L M : Log) → Decides (seatOf T own) cs L → Decides (seatOf T own) cs M → Compatible L M)
+    → LongestDecided (seatOf T own) cs (stand (seatOf T own) cs .log) × (stand (seatOf T own) cs .parted ≡ false)
 unfolding stand
-stands-longest n own cs agree =
-    let ds = after n own cs .actions in
-    let g = stand-good ds (λ L M i j. agree L M (mem-decides n own cs L i) (mem-decides n own cs M j)) in (
+stands-longest T own cs agree =
+    let ds = after (seatOf T own) cs .actions in
+    let g = stand-good ds (λ L M i j. agree L M (mem-decides (seatOf T own) cs L i) (mem-decides (seatOf T own) cs M j)) in (
       record {
         among = elim (g .among) [
-          | inl m ↦ inl (mem-decides n own cs (standIn ds .log) m)
-          | inr e ↦ inr (e .0, λ M d. List·Memᴰ·not-nil (rw (e .1) at (decides-mem n own cs M d)))
+          | inl m ↦ inl (mem-decides (seatOf T own) cs (standIn nothingStands ds .log) m)
+          | inr e ↦ inr (e .0, λ M d. List·Memᴰ·not-nil (rw (e .1) at (decides-mem (seatOf T own) cs M d)))
         ];
-        above = λ M d. prefix-length (g .above M (decides-mem n own cs M d));
+        above = λ M d. prefix-length (g .above M (decides-mem (seatOf T own) cs M d));
       },
       g .unmarked,
     )

@@ -12,6 +12,7 @@ use Rattle.message.specs.Logs.{Block, Log}
 use Rattle.message.specs.Message.{Content, Meaning, logMessage, proposalMessage, said, means}
 use Rattle.message.proofs.TestLaws.{either}
 use Rattle.agreement.specs.Heard.{heardProposals, voteAmong}
+use Rattle.bench.specs.Terms.{Seat}
 use Rattle.bench.specs.Calendar.{lastView, inputBeat, actAt, viewOf, placeIn}
 use Rattle.bench.specs.Calls.{Call, begin, receive, act}
 use Rattle.bench.specs.Acts.{mayPropose, propose, vote, isView, inViews, makes}
@@ -24,13 +25,13 @@ use Rattle.run.proofs.Beats.{UpTo, upTo-now, upTo-step, Below, below-ac
 -- ---- what an act makes
 
 -- A LOG that a bench makes is its vote: under its number, at the view's input beat, for what the lock chooses.
-pub record Vote (n own : ℕ) (p : History) (m : Content) : Type 0 where
-  pub sender : m .sender ≡ own
+pub record Vote (S : Seat) (p : History) (m : Content) : Type 0 where
+  pub sender : m .sender ≡ S .own
   pub beat : beatNow p ≡ inputBeat (m .view)
   pub range : m .view ≤ lastView
   pub locked : Log
-  pub isLock : lockAt n p (m .view) ≡ some locked
-  pub voted : m .log ≡ voteAmong n (heardProposals (p .proposals) (m .view)) locked
+  pub isLock : lockAt S p (m .view) ≡ some locked
+  pub voted : m .log ≡ voteAmong (S .terms .n) (heardProposals (p .proposals) (m .view)) locked
 
 meaning-kind : Option Meaning → ℕ
 meaning-kind none = 0
@@ -65,14 +66,14 @@ unfolding vote
 vote-shape own v choose none h e = absurd (Option·none-ne-some _ e)
 vote-shape own v choose (some M) h e = (M, refl, sym (same-log _ _ e))
 
-makes-vote : (n own : ℕ) (p : History) (block : Block) (priority v r : ℕ) (h : Content) → viewOf (beatNow p) ≡ v → placeIn (beatNow p) ≡ r
-    → makes own v block priority (seenAt n p v) (actAt r) ≡ some (logMessage h) → Vote n own p h
+makes-vote : (S : Seat) (p : History) (block : Block) (priority v r : ℕ) (h : Content) → viewOf (beatNow p) ≡ v → placeIn (beatNow p) ≡ r
+    → makes (S .own) v block priority (seenAt S p v) (actAt r) ≡ some (logMessage h) → Vote S p h
 unfolding makes
-makes-vote n own p block priority v zero h ev er e =
-    absurd (propose-no-log own v block priority (candidateAt n p v) h (inViews-some v _ _ e .1))
-makes-vote n own p block priority v (suc zero) h ev er e =
+makes-vote S p block priority v zero h ev er e =
+    absurd (propose-no-log (S .own) v block priority (candidateAt S p v) h (inViews-some v _ _ e .1))
+makes-vote S p block priority v (suc zero) h ev er e =
     let x = inViews-some v _ _ e in
-    let s = vote-shape own v (voteAmong n (heardProposals (p .proposals) v)) (lockAt n p v) h (x .1) in
+    let s = vote-shape (S .own) v (voteAmong (S .terms .n) (heardProposals (p .proposals) v)) (lockAt S p v) h (x .1) in
     let hv : h .view ≡ v = ap (λ (k : Content). k .view) (s .2) in
     let r = x .0 in
     record {
@@ -80,22 +81,22 @@ makes-vote n own p block priority v (suc zero) h ev er e =
       beat = omega arith;
       range = omega arith;
       locked = s .0;
-      isLock = ap (lockAt n p) hv ∙ s .1;
-      voted = ap (λ (k : Content). k .log) (s .2) ∙ ap (λ (u : ℕ). voteAmong n (heardProposals (p .proposals) u) (s .0)) (sym hv);
+      isLock = ap (lockAt S p) hv ∙ s .1;
+      voted = ap (λ (k : Content). k .log) (s .2) ∙ ap (λ (u : ℕ). voteAmong (S .terms .n) (heardProposals (p .proposals) u) (s .0)) (sym hv);
     }
-makes-vote n own p block priority v (suc (suc zero)) h ev er e = absurd (Option·none-ne-some _ e)
-makes-vote n own p block priority v (suc (suc (suc r))) h ev er e = absurd (Option·none-ne-some _ e)
+makes-vote S p block priority v (suc (suc zero)) h ev er e = absurd (Option·none-ne-some _ e)
+makes-vote S p block priority v (suc (suc (suc r))) h ev er e = absurd (Option·none-ne-some _ e)
 
-pub made-vote : (n own : ℕ) (p : History) (block : Block) (priority : ℕ) (h : Content) → madeBy n own p block priority ≡ some (logMessage h) → Vote n own p h
+pub made-vote : (S : Seat) (p : History) (block : Block) (priority : ℕ) (h : Content) → madeBy S p block priority ≡ some (logMessage h) → Vote S p h
 unfolding madeBy
-made-vote n own p block priority h e = makes-vote n own p block priority (viewOf (beatNow p)) (placeIn (beatNow p)) h refl refl e
+made-vote S p block priority h e = makes-vote S p block priority (viewOf (beatNow p)) (placeIn (beatNow p)) h refl refl e
 
 -- ---- where a LOG that is heard came from
 
 -- taken at a beat up to the last begun one, or made in an act below the gathering
-pub data From (n own : ℕ) (cs : List Call) (p : History) (h : Content) : Type 0 where
-  taken : (pre : List Call) (b : ℕ) → TakesAfter n own cs pre b h → UpTo p b → From n own cs p h
-  made : (pre : List Call) (b : ℕ) → MakesAfter n own cs pre b h → Below p b → From n own cs p h
+pub data From (S : Seat) (cs : List Call) (p : History) (h : Content) : Type 0 where
+  taken : (pre : List Call) (b : ℕ) → TakesAfter S cs pre b h → UpTo p b → From S cs p h
+  made : (pre : List Call) (b : ℕ) → MakesAfter S cs pre b h → Below p b → From S cs p h
 
 file-cases : (p : History) (m : Meaning) (h : Content) → Mem h (file p m .heard) → (m ≡ logMessage h) ⊎ Mem h (p .heard)
 unfolding file
@@ -115,99 +116,99 @@ receive-is-no-act : (bytes : List ℕ) (x : Block) (r : ℕ) (o : List ℕ) → 
 unfolding call-kind
 receive-is-no-act bytes x r o e = let z : _≡_ {A = ℕ} 1 2 = ap call-kind e in omega arith
 
-module _ (n own : ℕ) (cs : List Call) where
-  from-step : (p : History) (c : Call) (h : Content) → refusal n p c ≡ none → From n own cs p h → From n own cs (accepted n own p c) h
-  from-step p c h ok (taken pre b t u) = taken pre b t (upTo-step n own p b c ok u)
-  from-step p c h ok (made pre b t u) = made pre b t (below-step n own p b c ok u)
+module _ (S : Seat) (cs : List Call) where
+  from-step : (p : History) (c : Call) (h : Content) → refusal S p c ≡ none → From S cs p h → From S cs (accepted S p c) h
+  from-step p c h ok (taken pre b t u) = taken pre b t (upTo-step S p b c ok u)
+  from-step p c h ok (made pre b t u) = made pre b t (below-step S p b c ok u)
 
-  heardFrom-step : (pre : List Call) (c : Call) → At cs pre c → refusal n (after n own pre) c ≡ none
-      → ((h : Content) → Mem h (after n own pre .heard) → From n own cs (after n own pre) h)
-      → (h : Content) → Mem h (accepted n own (after n own pre) c .heard) → From n own cs (accepted n own (after n own pre) c) h
+  heardFrom-step : (pre : List Call) (c : Call) → At cs pre c → refusal S (after S pre) c ≡ none
+      → ((h : Content) → Mem h (after S pre .heard) → From S cs (after S pre) h)
+      → (h : Content) → Mem h (accepted S (after S pre) c .heard) → From S cs (accepted S (after S pre) c) h
   unfolding accepted
-  heardFrom-step pre (begin b) at ok ih h i = from-step (after n own pre) (begin b) h ok (ih h i)
+  heardFrom-step pre (begin b) at ok ih h i = from-step (after S pre) (begin b) h ok (ih h i)
   heardFrom-step pre (receive bytes) at ok ih h i =
-      go (file-cases p (r .message) h (subst (λ (q : History). Mem h (q .heard)) (accepted-receive n own p bytes (r .message) (r .read)) i))
+      go (file-cases p (r .message) h (subst (λ (q : History). Mem h (q .heard)) (accepted-receive S p bytes (r .message) (r .read)) i))
     where
       p : History
-      p = after n own pre
+      p = after S pre
 
-      r : Receives n p bytes
-      r = receive-ok n p bytes ok
+      r : Receives S p bytes
+      r = receive-ok S p bytes ok
 
-      go : (r .message ≡ logMessage h) ⊎ Mem h (p .heard) → From n own cs (accepted n own p (receive bytes)) h
+      go : (r .message ≡ logMessage h) ⊎ Mem h (p .heard) → From S cs (accepted S p (receive bytes)) h
       go (inr j) = from-step p (receive bytes) h ok (ih h j)
       go (inl e) =
-          let b = has-beat n own pre (r .gathering) in
+          let b = has-beat S pre (r .gathering) in
           taken pre (b .0)
           (record { bytes = bytes; place = at; ok = ok; beat = b .1; read = r .read ∙ ap means e })
-          (upTo-step n own p (b .0) (receive bytes) ok (upTo-now p (b .0) (b .1)))
-  heardFrom-step pre (act x r o) at ok ih h i = go (fileMade-cases (closed p m (decidedBy n p)) m h i)
+          (upTo-step S p (b .0) (receive bytes) ok (upTo-now p (b .0) (b .1)))
+  heardFrom-step pre (act x r o) at ok ih h i = go (fileMade-cases (closed p m (decidedBy S p)) m h i)
     where
       p : History
-      p = after n own pre
+      p = after S pre
 
       m : Option Meaning
-      m = madeBy n own p x r
+      m = madeBy S p x r
 
-      go : (m ≡ some (logMessage h)) ⊎ Mem h (p .heard) → From n own cs (accepted n own p (act x r o)) h
+      go : (m ≡ some (logMessage h)) ⊎ Mem h (p .heard) → From S cs (accepted S p (act x r o)) h
       go (inr j) = from-step p (act x r o) h ok (ih h j)
       go (inl e) =
-          let b = has-beat n own pre (act-ok n p x r o ok .1) in
+          let b = has-beat S pre (act-ok S p x r o ok .1) in
           made pre (b .0)
           (record { acts = record { block = x; priority = r; out = o; place = at; ok = ok; beat = b .1 }; made = e })
-          (below-act n own p (b .0) x r o ok (upTo-now p (b .0) (b .1)))
+          (below-act S p (b .0) x r o ok (upTo-now p (b .0) (b .1)))
 
   -- Every LOG heard after a start of the list was taken or made in it.
-  pub heard-from : (pre post : List Call) → cs ≡ pre ++ post → (h : Content) → Mem h (after n own pre .heard) → From n own cs (after n own pre) h
+  pub heard-from : (pre post : List Call) → cs ≡ pre ++ post → (h : Content) → Mem h (after S pre .heard) → From S cs (after S pre) h
   heard-from =
-      along n own cs (λ (p : History). (h : Content) → Mem h (p .heard) → From n own cs p h) (λ h i. absurd (List·Memᴰ·not-nil i)) heardFrom-step
+      along S cs (λ (p : History). (h : Content) → Mem h (p .heard) → From S cs p h) (λ h i. absurd (List·Memᴰ·not-nil i)) heardFrom-step
 
   -- ---- and back
 
   -- a LOG taken in a gathering of a beat up to b′ is among those heard at the act of b′
-  pub taken-heard : (pre : List Call) (b : ℕ) (h : Content) → TakesAfter n own cs pre b h → (pre′ : List Call) (b′ : ℕ) → ActsAfter n own cs pre′ b′ → b ≤ b′
-      → Mem h (after n own pre′ .heard)
+  pub taken-heard : (pre : List Call) (b : ℕ) (h : Content) → TakesAfter S cs pre b h → (pre′ : List Call) (b′ : ℕ) → ActsAfter S cs pre′ b′ → b ≤ b′
+      → Mem h (after S pre′ .heard)
   unfolding file
   taken-heard pre b h t pre′ b′ a l = go (ordered cs pre _ pre′ _ (t .place) (a .place))
     where
-      new : Mem h (after n own (pre ++ (receive (t .bytes) ∷ [])) .heard)
+      new : Mem h (after S (pre ++ (receive (t .bytes) ∷ [])) .heard)
       new =
           subst (λ (q : History). Mem h (q .heard))
-          (sym (after-ok n own pre (receive (t .bytes)) (t .ok) ∙ accepted-receive n own (after n own pre) (t .bytes) (logMessage h) (t .read)))
+          (sym (after-ok S pre (receive (t .bytes)) (t .ok) ∙ accepted-receive S (after S pre) (t .bytes) (logMessage h) (t .read)))
           (List·Memᴰ·head refl)
 
-      go : Order pre (receive (t .bytes)) pre′ (act (a .block) (a .priority) (a .out)) → Mem h (after n own pre′ .heard)
+      go : Order pre (receive (t .bytes)) pre′ (act (a .block) (a .priority) (a .out)) → Mem h (after S pre′ .heard)
       go (same e f) = absurd (receive-is-no-act _ _ _ _ f)
-      go (before mid e) = rw e (heard-grow n own (pre ++ (receive (t .bytes) ∷ [])) mid h new)
+      go (before mid e) = rw e (heard-grow S (pre ++ (receive (t .bytes) ∷ [])) mid h new)
       go (behind mid e) =
-          let g = receive-ok n (after n own pre) (t .bytes) (t .ok) .gathering in
-          let k : b′ < b = later n own cs pre′ b′ a mid b (rw e at g) (rw e at (t .beat)) in
+          let g = receive-ok S (after S pre) (t .bytes) (t .ok) .gathering in
+          let k : b′ < b = later S cs pre′ b′ a mid b (rw e at g) (rw e at (t .beat)) in
           absurd (omega arith)
 
   -- one made in an act of an earlier beat likewise
-  pub made-heard-later : (pre : List Call) (b : ℕ) (h : Content) → MakesAfter n own cs pre b h → (pre′ : List Call) (b′ : ℕ) → ActsAfter n own cs pre′ b′ → b < b′
-      → Mem h (after n own pre′ .heard)
+  pub made-heard-later : (pre : List Call) (b : ℕ) (h : Content) → MakesAfter S cs pre b h → (pre′ : List Call) (b′ : ℕ) → ActsAfter S cs pre′ b′ → b < b′
+      → Mem h (after S pre′ .heard)
   unfolding file
   made-heard-later pre b h t pre′ b′ a l = go (ordered cs pre _ pre′ _ (t .acts .place) (a .place))
     where
       p : History
-      p = after n own pre
+      p = after S pre
 
-      new : Mem h (after n own (pre ++ (act (t .acts .block) (t .acts .priority) (t .acts .out) ∷ [])) .heard)
+      new : Mem h (after S (pre ++ (act (t .acts .block) (t .acts .priority) (t .acts .out) ∷ [])) .heard)
       new =
           subst (λ (q : History). Mem h (q .heard))
           (sym
-          (after-ok n own pre (act (t .acts .block) (t .acts .priority) (t .acts .out)) (t .acts .ok)
-          ∙ accepted-act n own p (t .acts .block) (t .acts .priority) (t .acts .out)
-          ∙ ap (fileMade (closed p (madeBy n own p (t .acts .block) (t .acts .priority)) (decidedBy n p))) (t .made)))
+          (after-ok S pre (act (t .acts .block) (t .acts .priority) (t .acts .out)) (t .acts .ok)
+          ∙ accepted-act S p (t .acts .block) (t .acts .priority) (t .acts .out)
+          ∙ ap (fileMade (closed p (madeBy S p (t .acts .block) (t .acts .priority)) (decidedBy S p))) (t .made)))
           (List·Memᴰ·head refl)
 
-      go : Order pre (act (t .acts .block) (t .acts .priority) (t .acts .out)) pre′ (act (a .block) (a .priority) (a .out)) → Mem h (after n own pre′ .heard)
+      go : Order pre (act (t .acts .block) (t .acts .priority) (t .acts .out)) pre′ (act (a .block) (a .priority) (a .out)) → Mem h (after S pre′ .heard)
       go (same e f) =
-          let k : b ≡ b′ = Option·some-injective _ _ (sym (t .acts .beat) ∙ ap (λ (x : List Call). after n own x .last) e ∙ a .beat) in
+          let k : b ≡ b′ = Option·some-injective _ _ (sym (t .acts .beat) ∙ ap (λ (x : List Call). after S x .last) e ∙ a .beat) in
           absurd (omega arith)
-      go (before mid e) = rw e (heard-grow n own (pre ++ (act (t .acts .block) (t .acts .priority) (t .acts .out) ∷ [])) mid h new)
+      go (before mid e) = rw e (heard-grow S (pre ++ (act (t .acts .block) (t .acts .priority) (t .acts .out) ∷ [])) mid h new)
       go (behind mid e) =
-          let g = act-ok n p (t .acts .block) (t .acts .priority) (t .acts .out) (t .acts .ok) .1 in
-          let k : b′ < b = later n own cs pre′ b′ a mid b (rw e at g) (rw e at (t .acts .beat)) in
+          let g = act-ok S p (t .acts .block) (t .acts .priority) (t .acts .out) (t .acts .ok) .1 in
+          let k : b′ < b = later S cs pre′ b′ a mid b (rw e at g) (rw e at (t .acts .beat)) in
           absurd (omega arith)

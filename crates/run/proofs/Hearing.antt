@@ -7,7 +7,7 @@ use Rattle.message.specs.Logs.{Log, Prefix}
 use Rattle.agreement.specs.Sets.{weigh}
 use Rattle.agreement.specs.Reading.{Reading, Grade, LongestLog}
 
--- Beats and agreements go by number, and nothing here says which beats: a calendar gives these (FourBeat). Throughout, r and t are benches, x is a
+-- Beats and agreements go by number, and nothing here says which beats: a calendar gives these (FourBeats). Throughout, r and t are benches, x is a
 -- sender, k an agreement, and b, c, s, g are beats.
 
 -- two different logs of one sender: both taken, both sent on

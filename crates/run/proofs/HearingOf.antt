@@ -15,17 +15,16 @@ use Rattle.message.specs.Message.{Content}
 use Rattle.agreement.specs.Kept.{heardOf}
 use Rattle.agreement.specs.Heard.{heardLogs, votersOf, onlyLog}
 use Rattle.agreement.proofs.SenderLaws.{heard-S, S-some, V-only, V-some, S-cases}
-use Rattle.bench.specs.Calendar.{closeBeat}
 use Rattle.bench.specs.Calls.{Call}
 use Rattle.bench.specs.History.{after, awake, heardAt}
-use Rattle.run.specs.Places.{ActsAfter, Sends, sendsMade, sendsOn}
-use Rattle.run.specs.Premises.{Volume, Keeps, Delivery, Numbers}
+use Rattle.run.specs.Places.{ActsAfter, MakesAfter, TakesAfter, Sends, sendsMade, sendsOn, With}
+use Rattle.run.specs.Premises.{Volume, seat, Keeps}
 use Rattle.run.proofs.Hearing.{Hearing, Twice}
-use Rattle.run.proofs.Beats.{upTo-le, beat-is}
-use Rattle.run.proofs.HeardFrom.{made-vote}
+use Rattle.run.proofs.Beats.{upTo-le}
+use Rattle.run.proofs.Timetable.{Timetable}
 use Rattle.run.proofs.ActPlaces.{awake-acts, acts-awake, act-heard}
 use Rattle.run.proofs.SentOn.{SentBy, sent-status}
-use Rattle.run.proofs.Taking.{Took, tookTaken, tookMade, took-mem, mem-took, taken-window, with-took}
+use Rattle.run.proofs.Taking.{Took, tookTaken, tookMade, took-mem, mem-took, with-took}
 
 -- ---- the first beat after b at which a test holds
 
@@ -59,11 +58,11 @@ first-after p (suc k) b e = go (p (suc b)) refl (first-after p k (suc b) (subst 
 
 -- r keeps the rules, and has a number of the volume
 unfoldable pub keepsb : Volume → ℕ → Bool
-keepsb W r = W .keeper r && ltb r (W .n)
+keepsb W r = W .keeper r && ltb r (W .terms .n)
 
 -- and is awake at b
 unfoldable pub awakeb : Volume → ℕ → ℕ → Bool
-awakeb W r b = keepsb W r && awake (W .n) r (W .calls r) b
+awakeb W r b = keepsb W r && awake (seat W r) (W .calls r) b
 
 abbrev orNobody : Option (List Content) → List Content
 orNobody none = []
@@ -71,79 +70,79 @@ orNobody (some l) = l
 
 -- the LOGs that r has heard when it acts at b
 unfoldable pub heardBy : Volume → ℕ → ℕ → List Content
-heardBy W r b = orNobody (heardAt (after (W .n) r (W .calls r) .actions) b)
+heardBy W r b = orNobody (heardAt (after (seat W r) (W .calls r) .actions) b)
 
 pub keeps-of : (W : Volume) (r : ℕ) → keepsb W r ≡ true → Keeps W r
 unfolding keepsb
-keeps-of W r e = let x = and-eq-true-iff _ _ .0 e in (ltb-true r (W .n) (x .1), x .0)
+keeps-of W r e = let x = and-eq-true-iff _ _ .0 e in (ltb-true r (W .terms .n) (x .1), x .0)
 
 of-keeps : (W : Volume) (r : ℕ) → Keeps W r → keepsb W r ≡ true
 unfolding keepsb
-of-keeps W r k = rw (k .1, lt-ltb r (W .n) (k .0))
+of-keeps W r k = rw (k .1, lt-ltb r (W .terms .n) (k .0))
 
 -- an act of a rule-keeper, and what it has heard
 pub record Place (W : Volume) (r b : ℕ) : Type 0 where
   pub keeps : Keeps W r
   pub pre : List Call
-  pub acts : ActsAfter (W .n) r (W .calls r) pre b
-  pub heard : heardBy W r b ≡ after (W .n) r pre .heard
+  pub acts : ActsAfter (seat W r) (W .calls r) pre b
+  pub heard : heardBy W r b ≡ after (seat W r) pre .heard
 
-pub heard-at : (W : Volume) (r b : ℕ) (pre : List Call) → ActsAfter (W .n) r (W .calls r) pre b → heardBy W r b ≡ after (W .n) r pre .heard
+pub heard-at : (W : Volume) (r b : ℕ) (pre : List Call) → ActsAfter (seat W r) (W .calls r) pre b → heardBy W r b ≡ after (seat W r) pre .heard
 unfolding heardBy
-heard-at W r b pre a = rw (act-heard (W .n) r (W .calls r) pre b a)
+heard-at W r b pre a = rw (act-heard (seat W r) (W .calls r) pre b a)
 
 pub awake-place : (W : Volume) (r b : ℕ) → awakeb W r b ≡ true → Place W r b
 unfolding awakeb
 awake-place W r b e =
     let x = and-eq-true-iff _ _ .0 e in
-    let y = awake-acts (W .n) r (W .calls r) b (x .1) in
+    let y = awake-acts (seat W r) (W .calls r) b (x .1) in
     record { keeps = keeps-of W r (x .0); pre = y .0; acts = y .1; heard = heard-at W r b (y .0) (y .1) }
 
-pub place-awake : (W : Volume) (r b : ℕ) → Keeps W r → (pre : List Call) → ActsAfter (W .n) r (W .calls r) pre b → awakeb W r b ≡ true
+pub place-awake : (W : Volume) (r b : ℕ) → Keeps W r → (pre : List Call) → ActsAfter (seat W r) (W .calls r) pre b → awakeb W r b ≡ true
 unfolding awakeb
-place-awake W r b k pre a = rw (of-keeps W r k, acts-awake (W .n) r (W .calls r) pre b a)
+place-awake W r b k pre a = rw (of-keeps W r k, acts-awake (seat W r) (W .calls r) pre b a)
 
 -- a rule-keeper made the LOG or passed it on, by beat b
 pub record Sent (W : Volume) (r b : ℕ) (h : Content) : Type 0 where
   pub keeps : Keeps W r
   pub beat : ℕ
   pub le : beat ≤ b
-  pub sends : Sends (W .n) r (W .calls r) beat h
+  pub sends : Sends (seat W r) (W .calls r) beat h
 
 module _ (W : Volume) where
   abbrev TookW : ℕ → ℕ → ℕ → ℕ → Log → Type 0
-  TookW r b k x L = Took (W .n) r (W .calls r) b (logBy x k L)
+  TookW r b k x L = Took (seat W r) (W .calls r) b (logBy x k L)
 
   abbrev SentW : ℕ → ℕ → ℕ → ℕ → Log → Type 0
   SentW r b k x L = Sent W r b (logBy x k L)
 
   -- ---- S and V at an act
 
-  sent-of : (r b : ℕ) (p : Place W r b) (h : Content) → SentBy (W .n) r (W .calls r) (after (W .n) r (p .pre)) h → Sent W r b h
+  sent-of : (r b : ℕ) (p : Place W r b) (h : Content) → SentBy (seat W r) (W .calls r) (after (seat W r) (p .pre)) h → Sent W r b h
   sent-of r b p h s =
-      record { keeps = p .keeps; beat = s .beat; le = upTo-le (after (W .n) r (p .pre)) (s .beat) b (s .upTo) (p .acts .beat); sends = s .sends }
+      record { keeps = p .keeps; beat = s .beat; le = upTo-le (after (seat W r) (p .pre)) (s .beat) b (s .upTo) (p .acts .beat); sends = s .sends }
 
   pub heard-of : (r b k x : ℕ) (L : Log) → awakeb W r b ≡ true → TookW r b k x L → heardOf (heardLogs (heardBy W r b) k x) ≡ true
   heard-of r b k x L a t =
       let p = awake-place W r b a in
-      rw (p .heard) (heard-S (after (W .n) r (p .pre) .heard) (logBy x k L) (took-mem (W .n) r (W .calls r) (p .pre) b (p .acts) (logBy x k L) t))
+      rw (p .heard) (heard-S (after (seat W r) (p .pre) .heard) (logBy x k L) (took-mem (seat W r) (W .calls r) (p .pre) b (p .acts) (logBy x k L) t))
 
   pub heard-some : (r b k x : ℕ) → awakeb W r b ≡ true → heardOf (heardLogs (heardBy W r b) k x) ≡ true → (L : Log) × TookW r b k x L × SentW r b k x L
   heard-some r b k x a e =
       let p = awake-place W r b a in
-      let st = sent-status (W .n) r (W .calls r) k x (p .pre) _ (p .acts .place .1) in
-      let y = S-some (after (W .n) r (p .pre) .heard) k x _ st (rw (p .heard) at e) in
-      (y .0, mem-took (W .n) r (W .calls r) (p .pre) b (p .acts) (logBy x k (y .0)) (y .1), sent-of r b p (logBy x k (y .0)) (y .2))
+      let st = sent-status (seat W r) (W .calls r) k x (p .pre) _ (p .acts .place .1) in
+      let y = S-some (after (seat W r) (p .pre) .heard) k x _ st (rw (p .heard) at e) in
+      (y .0, mem-took (seat W r) (W .calls r) (p .pre) b (p .acts) (logBy x k (y .0)) (y .1), sent-of r b p (logBy x k (y .0)) (y .2))
 
   pub single-some : (r b k x : ℕ) → awakeb W r b ≡ true → votersOf (heardLogs (heardBy W r b) k) x ≡ true
       → TookW r b k x (onlyLog (heardLogs (heardBy W r b) k x)) × SentW r b k x (onlyLog (heardLogs (heardBy W r b) k x))
   single-some r b k x a e =
       let p = awake-place W r b a in
-      let st = sent-status (W .n) r (W .calls r) k x (p .pre) _ (p .acts .place .1) in
-      let y = V-some (after (W .n) r (p .pre) .heard) k x _ st (rw (p .heard) at e) in
+      let st = sent-status (seat W r) (W .calls r) k x (p .pre) _ (p .acts .place .1) in
+      let y = V-some (after (seat W r) (p .pre) .heard) k x _ st (rw (p .heard) at e) in
       rw (p .heard) (
-        mem-took (W .n) r (W .calls r) (p .pre) b (p .acts) (logBy x k (onlyLog (heardLogs (after (W .n) r (p .pre) .heard) k x))) (y .0),
-        sent-of r b p (logBy x k (onlyLog (heardLogs (after (W .n) r (p .pre) .heard) k x))) (y .1),
+        mem-took (seat W r) (W .calls r) (p .pre) b (p .acts) (logBy x k (onlyLog (heardLogs (after (seat W r) (p .pre) .heard) k x))) (y .0),
+        sent-of r b p (logBy x k (onlyLog (heardLogs (after (seat W r) (p .pre) .heard) k x))) (y .1),
       )
 
   pub single-only : (r b k x : ℕ) (L : Log) → awakeb W r b ≡ true → votersOf (heardLogs (heardBy W r b) k) x ≡ true → TookW r b k x L
@@ -151,15 +150,15 @@ module _ (W : Volume) where
   single-only r b k x L a e t =
       let p = awake-place W r b a in
       rw (p .heard)
-      (V-only (after (W .n) r (p .pre) .heard) k x L (rw (p .heard) at e) (took-mem (W .n) r (W .calls r) (p .pre) b (p .acts) (logBy x k L) t))
+      (V-only (after (seat W r) (p .pre) .heard) k x L (rw (p .heard) at e) (took-mem (seat W r) (W .calls r) (p .pre) b (p .acts) (logBy x k L) t))
 
   pub single-or : (r b k x : ℕ) → awakeb W r b ≡ true → heardOf (heardLogs (heardBy W r b) k x) ≡ true
       → (votersOf (heardLogs (heardBy W r b) k) x ≡ true) ⊎ Twice (TookW r b k x) (SentW r b k x)
   single-or r b k x a e =
       let p = awake-place W r b a in
-      let st = sent-status (W .n) r (W .calls r) k x (p .pre) _ (p .acts .place .1) in
-      let took = mem-took (W .n) r (W .calls r) (p .pre) b (p .acts) in
-      elim (S-cases (after (W .n) r (p .pre) .heard) k x _ st (rw (p .heard) at e)) [
+      let st = sent-status (seat W r) (W .calls r) k x (p .pre) _ (p .acts .place .1) in
+      let took = mem-took (seat W r) (W .calls r) (p .pre) b (p .acts) in
+      elim (S-cases (after (seat W r) (p .pre) .heard) k x _ st (rw (p .heard) at e)) [
         | inl v ↦ inl (rw (p .heard) v)
         | inr y ↦ inr (record {
           first = y .0;
@@ -184,54 +183,84 @@ module _ (W : Volume) where
     | sendsOn pre t f ↦ tookTaken pre (s .beat) t (omega arith)
   ]
 
+-- ---- who keeps the rules through which beat
+
+-- `to x b`: bench x keeps the rules through beat b. A volume's lists of calls have what was done while keeping them.
+pub record Keeping (W : Volume) : Type 0 where
+  pub to : ℕ → ℕ → Bool
+  pub to-keeps : {x b : ℕ} → to x b ≡ true → keepsb W x ≡ true
+  pub to-before : {x b c : ℕ} → b ≤ c → to x c ≡ true → to x b ≡ true
+  pub awake-to : {x b : ℕ} → awakeb W x b ≡ true → to x b ≡ true
+
+-- the premise on delivery, with the last beat at which LOGs of an agreement are taken by any calendar
+abbrev pub DeliveryBy : (ℕ → ℕ) → Volume → Type 0
+DeliveryBy close W =
+    (p q : ℕ) → Keeps W p → Keeps W q → (p ≡ q → ⊥)
+    → (b : ℕ) (m : Content) → Sends (seat W p) (W .calls p) b m
+    → (pre : List Call) (b′ : ℕ) → ActsAfter (seat W q) (W .calls q) pre b′
+    → b < b′
+    → ((c : ℕ) → b < c → c < b′ → awake (seat W q) (W .calls q) c ≡ false)
+    → b′ ≤ close (m .view)
+    → (m .sender ≡ q → ⊥)
+    → With (seat W q) pre m
+
+-- the premise on numbers: in gatherings of beats through which a bench keeps the rules, others take no LOG with its number that it did not make
+abbrev pub NumbersBy : (W : Volume) → Keeping W → Type 0
+NumbersBy W K =
+    (p q : ℕ) → Keeps W p → Keeps W q
+    → (pre : List Call) (b : ℕ) (m : Content) → TakesAfter (seat W q) (W .calls q) pre b m
+    → m .sender ≡ p
+    → K .to p b ≡ true
+    → (pre′ : List Call) × (b′ : ℕ) × MakesAfter (seat W p) (W .calls p) pre′ b′ m
+
+module _ (W : Volume) (C : Timetable (W .terms)) (K : Keeping W) where
   -- a LOG that its maker is sent back, it made before
-  own-made : Numbers W → (r s b k : ℕ) (L : Log) → Keeps W r → Keeps W s → (r ≡ s → ⊥) → Sends (W .n) r (W .calls r) b (logBy s k L)
-      → (c : ℕ) → b < c → TookW s c k s L
-  own-made N r s b k L kr ks d (sendsMade pre t) c l = absurd (d (sym (made-vote (W .n) r _ (t .acts .block) (t .acts .priority) _ (t .made) .sender)))
-  own-made N r s b k L kr ks d (sendsOn pre t f) c l =
-      let y = N s r ks kr pre b (logBy s k L) t refl in
-      let v = made-vote (W .n) s _ (y .2 .acts .block) (y .2 .acts .priority) _ (y .2 .made) .beat in
-      let e = beat-is (after (W .n) s (y .0)) (y .1) (y .2 .acts .beat) in
-      let w = taken-window (W .n) r (W .calls r) pre b (logBy s k L) t .0 in
+  own-made : NumbersBy W K → (r s b k : ℕ) (L : Log) → Keeps W r → Keeps W s → K .to s b ≡ true → (r ≡ s → ⊥) → Sends (seat W r) (W .calls r) b (logBy s k L)
+      → (c : ℕ) → b < c → TookW W s c k s L
+  own-made N r s b k L kr ks to d (sendsMade pre t) c l = absurd (d (sym (C .made-own t)))
+  own-made N r s b k L kr ks to d (sendsOn pre t f) c l =
+      let y = N s r ks kr pre b (logBy s k L) t refl to in
+      let v : y .1 ≡ C .input k = C .made-beat (y .2) in
+      let w : C .input k ≤ b = C .taken-late t in
       tookMade (y .0) (y .1) (y .2) (omega arith)
 
-  pub delivery : Delivery W → Numbers W → (r s b c k x : ℕ) (L : Log) → SentW r b k x L → (r ≡ s → ⊥) → awakeb W s c ≡ true → b < c → c ≤ closeBeat k
-      → TookW s c k x L
+  pub delivery : DeliveryBy (C .close) W → NumbersBy W K → (r s b c k x : ℕ) (L : Log) → SentW W r b k x L → (r ≡ s → ⊥) → awakeb W s c ≡ true → b < c → c ≤ C .close k
+      → TookW W s c k x L
   unfolding awakeb
   delivery D N r s b c k x L sent d a l m =
       let q = and-eq-true-iff _ _ .0 a in
       let ks = keeps-of W s (q .0) in
       let le = sent .le in
       let gap : sent .beat + suc (c - sent .beat - 1) ≡ c = omega arith in
-      let f = first-after (awake (W .n) s (W .calls s)) (c - sent .beat - 1) (sent .beat)
-      (subst (λ (i : ℕ). awake (W .n) s (W .calls s) i ≡ true) (sym gap) (q .1)) in
-      let y = awake-acts (W .n) s (W .calls s) (f .beat) (f .holds) in
+      let f = first-after (awake (seat W s) (W .calls s)) (c - sent .beat - 1) (sent .beat)
+      (subst (λ (i : ℕ). awake (seat W s) (W .calls s) i ≡ true) (sym gap) (q .1)) in
+      let y = awake-acts (seat W s) (W .calls s) (f .beat) (f .holds) in
       let top = f .until in
       elim (ℕ-discrete x s) [
-        | yes e ↦ subst (λ (z : ℕ). TookW s c k z L) (sym e)
-            (own-made N r s (sent .beat) k L (sent .keeps) ks d
-            (subst (λ (z : ℕ). Sends (W .n) r (W .calls r) (sent .beat) (logBy z k L)) e (sent .sends)) c (omega arith))
-        | no e ↦ with-took (W .n) s (W .calls s) (y .0) (f .beat) (y .1) (logBy x k L)
+        | yes e ↦ subst (λ (z : ℕ). TookW W s c k z L) (sym e)
+            (own-made N r s (sent .beat) k L (sent .keeps) ks (K .to-before (omega arith) (K .awake-to a)) d
+            (subst (λ (z : ℕ). Sends (seat W r) (W .calls r) (sent .beat) (logBy z k L)) e (sent .sends)) c (omega arith))
+        | no e ↦ with-took (seat W s) (W .calls s) (y .0) (f .beat) (y .1) (logBy x k L)
             (D r s (sent .keeps) ks d (sent .beat) (logBy x k L) (sent .sends) (y .0) (f .beat) (y .1) (f .past) (f .none-before) (omega arith) e)
             c (omega arith)
       ]
 
   -- What the rule-keepers of a volume hear. An act reads every agreement.
-  unfoldable pub hearing : Delivery W → Numbers W → Hearing
+  unfoldable pub hearing : DeliveryBy (C .close) W → NumbersBy W K → Hearing
   hearing D N = record {
     awake = λ r k b. awakeb W r b;
-    close = closeBeat;
-    took = TookW;
-    sent = SentW;
+    close = C .close;
+    took = TookW W;
+    sent = SentW W;
     heard = λ r b k x. heardOf (heardLogs (heardBy W r b) k x);
     single = λ r b k x. votersOf (heardLogs (heardBy W r b) k) x;
     log = λ r b k x. onlyLog (heardLogs (heardBy W r b) k x);
-    heard-of = λ {r} {b} {k} {x} {L} a t. heard-of r b k x L a t;
-    heard-some = λ {r} {b} {k} {x} a e. heard-some r b k x a e;
-    single-some = λ {r} {b} {k} {x} a e. single-some r b k x a e;
-    single-only = λ {r} {b} {k} {x} {L} a e t. single-only r b k x L a e t;
-    single-or = λ {r} {b} {k} {x} a e. single-or r b k x a e;
-    grows = λ {r} {b} {c} {k} {x} {L} a a′ l t. grows r b c k x L l t;
-    kept = λ {r} {b} {c} {k} {x} {L} s a l. kept r b c k x L s l;
+    heard-of = λ {r} {b} {k} {x} {L} a t. heard-of W r b k x L a t;
+    heard-some = λ {r} {b} {k} {x} a e. heard-some W r b k x a e;
+    single-some = λ {r} {b} {k} {x} a e. single-some W r b k x a e;
+    single-only = λ {r} {b} {k} {x} {L} a e t. single-only W r b k x L a e t;
+    single-or = λ {r} {b} {k} {x} a e. single-or W r b k x a e;
+    grows = λ {r} {b} {c} {k} {x} {L} a a′ l t. grows W r b c k x L l t;
+    kept = λ {r} {b} {c} {k} {x} {L} s a l. kept W r b c k x L s l;
     delivery = λ {r} {t} {b} {c} {k} {x} {L} s d a l m. delivery D N r t b c k x L s d a l m;
   }

@@ -13,17 +13,17 @@ use Rattle.agreement.specs.Limits.{mostSenders}
 use Rattle.bench.specs.Calls.{Call, begin, AllTyped}
 use Rattle.bench.specs.History.{after}
 use Rattle.run.specs.Places.{Decides}
-use Rattle.run.specs.Premises.{Volume, Keeps, Delivery, Numbers, Majority}
+use Rattle.run.specs.Premises.{Volume, seat, Keeps, Delivery, Numbers, Majority}
 use Rattle.run.proofs.Checks.{delivered, numbered, majority}
 use Rattle.run.proofs.TypedChecks.{volumeTypedb, volume-typed}
 use Rattle.run.proofs.Computed.{computed}
-use Rattle.run.proofs.Votes.{no-conflict}
+use Rattle.run.proofs.FourBeats.{no-conflict}
 use Rattle.run.proofs.Decided.{decidedIn, mem-decides}
 use Rattle.run.proofs.Witness.{five, seven, offers, acts, log}
 
 -- Two rule-keepers, or one, decided two logs that conflict, in calls that there can be.
 pub record Parts (W : Volume) : Type 0 where
-  pub range : W .n ≤ mostSenders
+  pub range : W .terms .n ≤ mostSenders
   pub typed : (i : ℕ) → Keeps W i → AllTyped (W .calls i)
   pub one : ℕ
   pub other : ℕ
@@ -31,8 +31,8 @@ pub record Parts (W : Volume) : Type 0 where
   pub other-keeps : Keeps W other
   pub log-one : Log
   pub log-other : Log
-  pub one-decides : Decides (W .n) one (W .calls one) log-one
-  pub other-decides : Decides (W .n) other (W .calls other) log-other
+  pub one-decides : Decides (seat W one) (W .calls one) log-one
+  pub other-decides : Decides (seat W other) (W .calls other) log-other
   pub conflict : Conflict log-one log-other
 
 -- so that by the theorem not all three premises hold
@@ -41,8 +41,8 @@ parts-fails W x D N J =
     no-conflict-iff (x .log-one) (x .log-other) .1
     (no-conflict W D N J (x .one) (x .other) (x .one-keeps) (x .other-keeps) (x .log-one) (x .log-other) (x .one-decides) (x .other-decides)) (x .conflict)
 
-parts : (W : Volume) (i j : ℕ) → W .n ≤ mostSenders → volumeTypedb W ≡ true → Keeps W i → Keeps W j
-    → Mem five (decidedIn (after (W .n) i (W .calls i) .actions)) → Mem seven (decidedIn (after (W .n) j (W .calls j) .actions)) → Parts W
+parts : (W : Volume) (i j : ℕ) → W .terms .n ≤ mostSenders → volumeTypedb W ≡ true → Keeps W i → Keeps W j
+    → Mem five (decidedIn (after (seat W i) (W .calls i) .actions)) → Mem seven (decidedIn (after (seat W j) (W .calls j) .actions)) → Parts W
 unfolding isPrefix
 parts W i j r t ki kj d e = record {
   range = r;
@@ -53,8 +53,8 @@ parts W i j r t ki kj d e = record {
   other-keeps = kj;
   log-one = five;
   log-other = seven;
-  one-decides = mem-decides (W .n) i (W .calls i) five d;
-  other-decides = mem-decides (W .n) j (W .calls j) seven e;
+  one-decides = mem-decides (seat W i) (W .calls i) five d;
+  other-decides = mem-decides (seat W j) (W .calls j) seven e;
   conflict = (λ h. false≢true (isPrefix-iff five seven .1 h), λ h. false≢true (isPrefix-iff seven five .1 h));
 }
 
@@ -70,7 +70,7 @@ unfolding acts log
 late = begin 10 ∷ log 2 2 seven ∷ acts ∷ begin 14 ∷ acts ∷ []
 
 abbrev turns : Volume
-turns = record { n = 3; keeper = λ i. ltb i 2; calls = λ i. getD (early ∷ late ∷ []) i [] }
+turns = record { terms = record { n = 3 }; keeper = λ i. ltb i 2; calls = λ i. getD (early ∷ late ∷ []) i [] }
 
 pub majority-not-idle : (W : Volume) × Delivery W × Numbers W × Parts W
 unfolding computed early late
@@ -89,7 +89,7 @@ unheard name entries =
     begin 0 ∷ offers name entries ∷ begin 1 ∷ acts ∷ begin 2 ∷ acts ∷ begin 3 ∷ acts ∷ begin 5 ∷ acts ∷ begin 6 ∷ acts ∷ []
 
 abbrev apart : Volume
-apart = record { n = 2; keeper = λ i. ltb i 2; calls = λ i. getD (unheard 5 3 ∷ unheard 7 1 ∷ []) i [] }
+apart = record { terms = record { n = 2 }; keeper = λ i. ltb i 2; calls = λ i. getD (unheard 5 3 ∷ unheard 7 1 ∷ []) i [] }
 
 pub delivery-not-idle : (W : Volume) × Numbers W × Majority W × Parts W
 unfolding computed unheard
@@ -110,7 +110,7 @@ deceived =
     ∷ begin 6 ∷ log 1 1 seven ∷ log 1 2 seven ∷ acts ∷ begin 7 ∷ acts ∷ begin 9 ∷ acts ∷ begin 10 ∷ acts ∷ []
 
 abbrev forged : Volume
-forged = record { n = 3; keeper = λ i. ltb i 3; calls = λ i. getD (deceived ∷ []) i [] }
+forged = record { terms = record { n = 3 }; keeper = λ i. ltb i 3; calls = λ i. getD (deceived ∷ []) i [] }
 
 pub numbers-not-idle : (W : Volume) × Delivery W × Majority W × Parts W
 unfolding computed deceived

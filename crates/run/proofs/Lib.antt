@@ -3,7 +3,6 @@
 pub mod Hearing
 pub mod TwoReadings
 pub mod Safety
-pub mod FourBeat
 -- One bench along its list of calls:
 pub mod Starts
 pub mod Beats
@@ -13,8 +12,10 @@ pub mod SentOn
 pub mod Taking
 pub mod Snapshots
 -- A volume that meets the premises:
+pub mod Timetable
 pub mod HearingOf
 pub mod Votes
+pub mod FourBeats
 pub mod Decided
 -- Demand 3 of a machine, from each bench alone:
 pub mod Reduce

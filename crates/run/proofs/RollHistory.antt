@@ -13,6 +13,7 @@ use Rattle.message.specs.Numbers.{AllBelow, numberIn}
 use Rattle.message.proofs.TestLaws.{either}
 use Rattle.message.proofs.NumberLaws.{number-below}
 use Rattle.message.proofs.ListedLaws.{length-at}
+use Rattle.bench.specs.Terms.{Terms, nothingStands, seatOf}
 use Rattle.bench.specs.Layout.{mostBytes, decidedPlace, leastLent}
 use Rattle.bench.specs.Calls.{Call, Answer, Reply, refused, done, took, acted, State, Opening, Typed, AllTyped}
 use Rattle.bench.specs.Acts.{Stand}
@@ -21,7 +22,7 @@ use Rattle.bench.specs.ByRecord.{openOf, standing}
 use Rattle.run.specs.Demand.{byValue, OpenedAs}
 use Rattle.run.specs.TheBench.{theBench}
 use Rattle.run.specs.Roll.{benchesOf, ownOf, eventsOf, bodiesPlace, misshapen, markPlace, kindAt, lengthAt, beginKind, receiveKind, callAt, callsFrom, callsOf}
-use Rattle.run.specs.RollText.{stepOf, linesOf, linesBy, firstLine, isDone, openedText, freshLists, textOf}
+use Rattle.run.specs.RollText.{termsOf, stepOf, linesOf, linesBy, firstLine, isDone, openedText, freshLists, textOf}
 use Rattle.run.proofs.TheDemand.{bench-simulates}
 
 -- D is the length of the log that stands
@@ -29,24 +30,24 @@ decided-length : (x : State) (s : Stand) → standing x ≡ s → x .bench .deci
 decided-length x s e =
     sym (length-at (x .lent .names) (x .lent .counts) decidedPlace (x .bench .decided)) ∙ ap (λ (t : Stand). length (t .log)) e
 
-module _ (n own : ℕ) where
-  lines-along : (x : State) (p : History) (cs : List Call) → bench-simulates .Rel n own x p → AllTyped cs → linesOf x cs ≡ linesBy n own p cs
+module _ (T : Terms) (own : ℕ) where
+  lines-along : (x : State) (p : History) (cs : List Call) → bench-simulates .Rel (seatOf T own) x p → AllTyped cs → linesOf x cs ≡ linesBy (seatOf T own) p cs
   unfolding linesOf linesBy
   lines-along x p [] r t = refl
   lines-along x p (c ∷ cs) r t =
       let y = stepOf x c .held in
-      let a = ap (λ (z : Answer). z .reply) (bench-simulates .same-answer n own byValue x p c r (t .0)) in
-      let k = bench-simulates .keeps n own byValue x p c r (t .0) in
-      let s = bench-simulates .same-standing n own y (step n own p c) k in
-      let d = decided-length y (standIn (step n own p c .actions)) s in
+      let a = ap (λ (z : Answer). z .reply) (bench-simulates .same-answer (seatOf T own) byValue x p c r (t .0)) in
+      let k = bench-simulates .keeps (seatOf T own) byValue x p c r (t .0) in
+      let s = bench-simulates .same-standing (seatOf T own) y (step (seatOf T own) p c) k in
+      let d = decided-length y (standIn nothingStands (step (seatOf T own) p c .actions)) s in
       let m = ap (λ (z : Stand). z .parted) s in
-      let l = lines-along y (step n own p c) cs k (t .1) in
+      let l = lines-along y (step (seatOf T own) p c) cs k (t .1) in
       rw (a, d, m, l)
 
-  pub lines-worked-out : (x : State) (cs : List Call) → OpenedAs theBench n own x → AllTyped cs → linesOf x cs ≡ linesBy n own fresh cs
-  lines-worked-out x cs o t = lines-along x fresh cs (bench-simulates .opens n own x o) t
+  pub lines-worked-out : (x : State) (cs : List Call) → OpenedAs theBench T own x → AllTyped cs → linesOf x cs ≡ linesBy (seatOf T own) (fresh (seatOf T own)) cs
+  lines-worked-out x cs o t = lines-along x (fresh (seatOf T own)) cs (bench-simulates .opens T own x o) t
 
-  pub any-lists : (x y : State) (cs : List Call) → OpenedAs theBench n own x → OpenedAs theBench n own y → AllTyped cs → linesOf x cs ≡ linesOf y cs
+  pub any-lists : (x y : State) (cs : List Call) → OpenedAs theBench T own x → OpenedAs theBench T own y → AllTyped cs → linesOf x cs ≡ linesOf y cs
   any-lists x y cs o q t = lines-worked-out x cs o t ∙ sym (lines-worked-out y cs q t)
 
 -- ---- of a whole roll
@@ -99,7 +100,7 @@ module _ (s : List ℕ) (bytes : AllBelow 256 s) where
   calls-typed i a (suc m) = (call-typed i a, calls-typed (i + 1) (a + lengthAt s i) m)
 
   opened-so : isDone (openOf (benchesOf s) (ownOf s) freshLists .reply) ≡ true
-      → OpenedAs theBench (benchesOf s) (ownOf s) (record { bench = openOf (benchesOf s) (ownOf s) freshLists .bench; lent = freshLists })
+      → OpenedAs theBench (termsOf s) (ownOf s) (record { bench = openOf (benchesOf s) (ownOf s) freshLists .bench; lent = freshLists })
   opened-so e = record {
     typed = record {
       n-fits = bytes 0;
@@ -114,7 +115,7 @@ module _ (s : List ℕ) (bytes : AllBelow 256 s) where
       done-gives o d = ap (λ (r : Reply). record { reply = r; bench = o .bench }) (is-done (o .reply) d)
 
   pub text-worked-out : misshapen s ≡ false → isDone (openOf (benchesOf s) (ownOf s) freshLists .reply) ≡ true
-      → textOf s ≡ firstLine (ownOf s) (benchesOf s) ++ linesBy (benchesOf s) (ownOf s) fresh (callsOf s)
+      → textOf s ≡ firstLine (ownOf s) (benchesOf s) ++ linesBy (seatOf (termsOf s) (ownOf s)) (fresh (seatOf (termsOf s) (ownOf s))) (callsOf s)
   unfolding textOf openedText
   text-worked-out e d =
-      rw (e, d, lines-worked-out (benchesOf s) (ownOf s) (record { bench = openOf (benchesOf s) (ownOf s) freshLists .bench; lent = freshLists }) (callsOf s) (opened-so d) (calls-typed 0 (bodiesPlace s) (eventsOf s)))
+      rw (e, d, lines-worked-out (termsOf s) (ownOf s) (record { bench = openOf (benchesOf s) (ownOf s) freshLists .bench; lent = freshLists }) (callsOf s) (opened-so d) (calls-typed 0 (bodiesPlace s) (eventsOf s)))

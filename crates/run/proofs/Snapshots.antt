@@ -5,41 +5,41 @@ use mathlib.Core.List.{List, _++_}
 use mathlib.Core.Option.{Option, some, none, Option·none-ne-some}
 use Rattle.message.specs.Logs.{Log}
 use Rattle.message.specs.Message.{Content}
-use Rattle.agreement.specs.Sets.{ones}
 use Rattle.agreement.specs.Reading.{LongestLog}
 use Rattle.agreement.specs.Heard.{heardLogs, votersOf, readingFrom, gradeWith}
 use Rattle.agreement.proofs.SenderLaws.{grade-longest}
+use Rattle.bench.specs.Terms.{Seat, weightOf}
 use Rattle.bench.specs.Calls.{Call}
 use Rattle.bench.specs.History.{snapshotOf, heardAt, after}
 use Rattle.run.specs.Places.{ActsAfter}
 use Rattle.run.proofs.ActPlaces.{heardAt-place}
 
-module _ (n own : ℕ) (cs : List Call) where
+module _ (S : Seat) (cs : List Call) where
   -- the reading of view u after `pre`, with the snapshot taken after `start`
   abbrev pub ReadAfter : List Call → ℕ → List Call → Log → Type 0
   ReadAfter pre u start L =
-      LongestLog n ones (readingFrom (heardLogs (after n own pre .heard) u) (votersOf (heardLogs (after n own start .heard) u))) L
+      LongestLog (S .terms .n) (weightOf (S .terms)) (readingFrom (heardLogs (after S pre .heard) u) (votersOf (heardLogs (after S start .heard) u))) L
 
   -- L is that reading's longest log, the snapshot being of beat s
   pub record GradedAt (pre : List Call) (u s : ℕ) (L : Log) : Type 0 where
     pub start : List Call
-    pub acts : ActsAfter n own cs start s
+    pub acts : ActsAfter S cs start s
     pub longest : ReadAfter pre u start L
 
   pub graded-at : (pre post : List Call) → cs ≡ pre ++ post → (u s : ℕ) (L : Log)
-      → gradeWith n (heardLogs (after n own pre .heard) u) (snapshotOf u (heardAt (after n own pre .actions) s)) ≡ some L → GradedAt pre u s L
+      → gradeWith (S .terms .n) (weightOf (S .terms)) (heardLogs (after S pre .heard) u) (snapshotOf u (heardAt (after S pre .actions) s)) ≡ some L → GradedAt pre u s L
   unfolding gradeWith
-  graded-at pre post e u s L q = go (heardAt (after n own pre .actions) s) refl q
+  graded-at pre post e u s L q = go (heardAt (after S pre .actions) s) refl q
     where
-      go : (o : Option (List Content)) → heardAt (after n own pre .actions) s ≡ o
-          → gradeWith n (heardLogs (after n own pre .heard) u) (snapshotOf u o) ≡ some L → GradedAt pre u s L
+      go : (o : Option (List Content)) → heardAt (after S pre .actions) s ≡ o
+          → gradeWith (S .terms .n) (weightOf (S .terms)) (heardLogs (after S pre .heard) u) (snapshotOf u o) ≡ some L → GradedAt pre u s L
       go none f g = absurd (Option·none-ne-some _ g)
       go (some l) f g =
-          let z = heardAt-place n own cs pre post e s l f in
-          let y = grade-longest n (heardLogs (after n own pre .heard) u) (votersOf (heardLogs l u)) L g in
+          let z = heardAt-place S cs pre post e s l f in
+          let y = grade-longest (S .terms .n) (weightOf (S .terms)) (heardLogs (after S pre .heard) u) (votersOf (heardLogs l u)) L g in
           record {
             start = z .0;
             acts = z .1;
             longest =
-                subst (λ (h : List Content). LongestLog n ones (readingFrom (heardLogs (after n own pre .heard) u) (votersOf (heardLogs h u))) L) (z .2) y;
+                subst (λ (h : List Content). LongestLog (S .terms .n) (weightOf (S .terms)) (readingFrom (heardLogs (after S pre .heard) u) (votersOf (heardLogs h u))) L) (z .2) y;
           }

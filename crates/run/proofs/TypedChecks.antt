@@ -48,8 +48,8 @@ all-typed (c ∷ cs) e = let x = and-eq-true-iff (typedb c) (all typedb cs) .0 e
 
 -- the rule-keepers' calls
 unfoldable pub volumeTypedb : Volume → Bool
-volumeTypedb W = allBelow (W .n) (λ (i : ℕ). implies (W .keeper i) (all typedb (W .calls i)))
+volumeTypedb W = allBelow (W .terms .n) (λ (i : ℕ). implies (W .keeper i) (all typedb (W .calls i)))
 
 pub volume-typed : (W : Volume) → volumeTypedb W ≡ true → (i : ℕ) → Keeps W i → AllTyped (W .calls i)
 unfolding volumeTypedb
-volume-typed W e i k = all-typed (W .calls i) (implies-use _ _ (below-use (W .n) _ e i (k .0)) (k .1))
+volume-typed W e i k = all-typed (W .calls i) (implies-use _ _ (below-use (W .terms .n) _ e i (k .0)) (k .1))

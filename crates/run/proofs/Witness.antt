@@ -21,6 +21,7 @@ use Rattle.message.specs.Logs.{Log}
 use Rattle.message.specs.Message.{logMessage, proposalMessage, bytesOf}
 use Rattle.agreement.specs.Filing.{first, second}
 use Rattle.bench.specs.Layout.{mostBytes}
+use Rattle.bench.specs.Terms.{Terms, seatOf}
 use Rattle.bench.specs.Calls.{Call, begin, receive, act, Reply, refused, done, took, acted, Answer, AllTyped, State}
 use Rattle.bench.specs.Acts.{Stand}
 use Rattle.bench.specs.History.{ActRecord, after, answersTo, stand}
@@ -36,6 +37,10 @@ use Rattle.run.proofs.Decided.{mem-decides}
 use Rattle.run.proofs.TheDemand.{bench-demand3}
 
 -- ---- the calls
+
+-- four benches
+abbrev pub four : Terms
+four = record { n = 4 }
 
 abbrev pub five : Log
 five = record { name = 5; count = 3 } ∷ []
@@ -109,7 +114,7 @@ bench2 =
     ∷ []
 
 abbrev pub volume : Volume
-volume = record { n = 4; keeper = λ i. ltb i 3; calls = λ i. getD (bench0 ∷ bench1 ∷ bench2 ∷ []) i [] }
+volume = record { terms = four; keeper = λ i. ltb i 3; calls = λ i. getD (bench0 ∷ bench1 ∷ bench2 ∷ []) i [] }
 
 -- ---- the premises, each computed
 
@@ -138,29 +143,29 @@ pub keep2 : Keeps volume 2
 keep2 = (omega arith, refl)
 
 -- the logs decided
-pub decide0 : Decides 4 0 bench0 five × Decides 4 0 bench0 fiveSix
+pub decide0 : Decides (seatOf four 0) bench0 five × Decides (seatOf four 0) bench0 fiveSix
 unfolding computed bench0
-decide0 = (mem-decides 4 0 bench0 five (List·Memᴰ·tail (List·Memᴰ·head refl)), mem-decides 4 0 bench0 fiveSix (List·Memᴰ·head refl))
+decide0 = (mem-decides (seatOf four 0) bench0 five (List·Memᴰ·tail (List·Memᴰ·head refl)), mem-decides (seatOf four 0) bench0 fiveSix (List·Memᴰ·head refl))
 
-pub decide1 : Decides 4 1 bench1 five × Decides 4 1 bench1 fiveSix
+pub decide1 : Decides (seatOf four 1) bench1 five × Decides (seatOf four 1) bench1 fiveSix
 unfolding computed bench1
-decide1 = (mem-decides 4 1 bench1 five (List·Memᴰ·tail (List·Memᴰ·head refl)), mem-decides 4 1 bench1 fiveSix (List·Memᴰ·head refl))
+decide1 = (mem-decides (seatOf four 1) bench1 five (List·Memᴰ·tail (List·Memᴰ·head refl)), mem-decides (seatOf four 1) bench1 fiveSix (List·Memᴰ·head refl))
 
-pub decide2 : Decides 4 2 bench2 five
+pub decide2 : Decides (seatOf four 2) bench2 five
 unfolding computed bench2
-decide2 = mem-decides 4 2 bench2 five (List·Memᴰ·head refl)
+decide2 = mem-decides (seatOf four 2) bench2 five (List·Memᴰ·head refl)
 
 -- what stands at the end, and no mark
 abbrev pub unmarked : Log → Stand
 unmarked L = record { log = L; parted = false }
 
-pub stands : (stand 4 0 bench0 ≡ unmarked fiveSix) × (stand 4 1 bench1 ≡ unmarked fiveSix) × (stand 4 2 bench2 ≡ unmarked five)
+pub stands : (stand (seatOf four 0) bench0 ≡ unmarked fiveSix) × (stand (seatOf four 1) bench1 ≡ unmarked fiveSix) × (stand (seatOf four 2) bench2 ≡ unmarked five)
 unfolding computed bench0 bench1 bench2
 stands = (refl, refl, refl)
 
 -- the beats in which each was awake, the last first
 abbrev beats : ℕ → List Call → List ℕ
-beats own cs = map (λ (d : ActRecord). d .beat) (after 4 own cs .actions)
+beats own cs = map (λ (d : ActRecord). d .beat) (after (seatOf four own) cs .actions)
 
 pub awakeAt :
     (beats 0 bench0 ≡ 10 ∷ 9 ∷ 8 ∷ 7 ∷ 6 ∷ 5 ∷ 4 ∷ 3 ∷ 2 ∷ 1 ∷ 0 ∷ [])
@@ -181,15 +186,15 @@ refusals [] = []
 refusals (a ∷ as′) = orNumber (a .reply) (refusals as′)
 
 pub refuses :
-    (refusals (answersTo 4 0 bench0) ≡ 20 ∷ 21 ∷ [])
-    × (refusals (answersTo 4 1 bench1) ≡ 1 ∷ 11 ∷ 22 ∷ 21 ∷ [])
-    × (refusals (answersTo 4 2 bench2) ≡ 22 ∷ [])
+    (refusals (answersTo (seatOf four 0) bench0) ≡ 20 ∷ 21 ∷ [])
+    × (refusals (answersTo (seatOf four 1) bench1) ≡ 1 ∷ 11 ∷ 22 ∷ 21 ∷ [])
+    × (refusals (answersTo (seatOf four 2) bench2) ≡ 22 ∷ [])
 unfolding computed bench0 bench1 bench2
 refuses = (refl, refl, refl)
 
 -- all that bench 2 answers
 pub answers2 :
-    map (λ (a : Answer). a .reply) (answersTo 4 2 bench2)
+    map (λ (a : Answer). a .reply) (answersTo (seatOf four 2) bench2)
     ≡ refused 22
     ∷ done ∷ took first ∷ acted (some (logMessage (record { sender = 2; view = 0; log = five })))
     ∷ done ∷ took first ∷ took first ∷ acted none
@@ -207,15 +212,15 @@ typed = volume-typed volume refl
 -- ---- the theorem, used: three benches opened on lists of any contents that went through these calls, each by value or on a lent record
 
 module _ (from : ℕ → State) (events : ℕ → List Event)
-    (opened : (i : ℕ) → Keeps volume i → OpenedAs theBench 4 i (from i))
+    (opened : (i : ℕ) → Keeps volume i → OpenedAs theBench four i (from i))
     (went : (i : ℕ) → Keeps volume i → callsIn (events i) ≡ volume .calls i) where
   -- no two decided logs conflict, and all that demand 3 claims besides
   pub claimed : Claim theBench volume from events
   claimed = bench-demand3 .agrees volume from events opened went typed delivers numbers outnumbers
 
-  stood : (i : ℕ) → Keeps volume i → standing (runs theBench (from i) (events i)) ≡ stand 4 i (volume .calls i)
+  stood : (i : ℕ) → Keeps volume i → standing (runs theBench (from i) (events i)) ≡ stand (seatOf four i) (volume .calls i)
   stood i k =
-      bench-demand3 .alone .stood 4 i (from i) (events i) (opened i k) (subst AllTyped (sym (went i k)) (typed i k)) ∙ ap (stand 4 i) (went i k)
+      bench-demand3 .alone .stood four i (from i) (events i) (opened i k) (subst AllTyped (sym (went i k)) (typed i k)) ∙ ap (stand (seatOf four i)) (went i k)
 
   -- what stands in their records and lists at the end is [5,6], [5,6] and [5], with no mark
   pub standing-logs :

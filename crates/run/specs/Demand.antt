@@ -5,12 +5,13 @@ use mathlib.Core.List.{List, [], _∷_, _++_}
 use mathlib.Core.Option.{some, none}
 use mathlib.Core.Path.{_≡_}
 use Rattle.message.specs.Logs.{Block, Log, Conflict}
+use Rattle.bench.specs.Terms.{Terms, seatOf}
 use Rattle.bench.specs.Layout.{Lent}
 use Rattle.bench.specs.Calls.{Call, begin, receive, act, refused, done, Answer, State, Opening, Step, Typed, AllTyped, TypedOpen}
 use Rattle.bench.specs.History.{openRefusal, refusal, after, answersTo, stand}
 use Rattle.bench.specs.ByRecord.{standing}
 use Rattle.run.specs.Places.{Decides, LongestDecided}
-use Rattle.run.specs.Premises.{Volume, Keeps, Delivery, Numbers, Majority}
+use Rattle.run.specs.Premises.{Volume, seat, Keeps, Delivery, Numbers, Majority}
 
 -- ---- machines
 
@@ -19,7 +20,7 @@ pub data Way : Type 0 where
   byValue onLent : Way
 
 pub record Machine : Type 0 where
-  pub open′ : ℕ → ℕ → Lent → Opening
+  pub open′ : Terms → ℕ → Lent → Opening
   pub begin′ : Way → State → ℕ → Step
   pub receive′ : Way → State → List ℕ → Step
   pub act′ : Way → State → Block → ℕ → List ℕ → Step
@@ -49,35 +50,35 @@ answers M x [] = []
 answers M x (e ∷ es) = call M (e .way) x (e .what) .answer ∷ answers M (call M (e .way) x (e .what) .held) es
 
 -- a bench as its Open gave it, on two lent lists of any contents
-pub record OpenedAs (M : Machine) (n own : ℕ) (x : State) : Type 0 where
-  pub typed : TypedOpen n own (x .lent)
-  pub given : M .open′ n own (x .lent) ≡ record { reply = done; bench = x .bench }
+pub record OpenedAs (M : Machine) (T : Terms) (own : ℕ) (x : State) : Type 0 where
+  pub typed : TypedOpen (T .n) own (x .lent)
+  pub given : M .open′ T own (x .lent) ≡ record { reply = done; bench = x .bench }
 
 -- ---- of each bench alone, for every list of calls, without premises
 
 -- Open refuses by 7 and 8, the first that fails, and under no other condition; else it gives a bench with an empty decided log and no mark.
 pub record OpensRightly (M : Machine) : Type 0 where
   pub refuses :
-      (n own : ℕ) (l : Lent) (k : ℕ) → TypedOpen n own l → openRefusal n own l ≡ some k → M .open′ n own l .reply ≡ refused k
+      (T : Terms) (own : ℕ) (l : Lent) (k : ℕ) → TypedOpen (T .n) own l → openRefusal (seatOf T own) l ≡ some k → M .open′ T own l .reply ≡ refused k
   pub opens :
-      (n own : ℕ) (l : Lent) → TypedOpen n own l → openRefusal n own l ≡ none
-      → (M .open′ n own l .reply ≡ done) × (M .open′ n own l .bench .decided ≡ 0) × (M .open′ n own l .bench .parted ≡ false)
+      (T : Terms) (own : ℕ) (l : Lent) → TypedOpen (T .n) own l → openRefusal (seatOf T own) l ≡ none
+      → (M .open′ T own l .reply ≡ done) × (M .open′ T own l .bench .decided ≡ 0) × (M .open′ T own l .bench .parted ≡ false)
 
 pub record Faithful (M : Machine) : Type 0 where
   pub opens : OpensRightly M
   -- the answers, made messages and outgoing buffers are the ones worked out from the list of calls
   pub answered :
-      (n own : ℕ) (x : State) (es : List Event) → OpenedAs M n own x → AllTyped (callsIn es) → answers M x es ≡ answersTo n own (callsIn es)
+      (T : Terms) (own : ℕ) (x : State) (es : List Event) → OpenedAs M T own x → AllTyped (callsIn es) → answers M x es ≡ answersTo (seatOf T own) (callsIn es)
   -- what stands in record and lists, and the mark, are what the decisions come to
   pub stood :
-      (n own : ℕ) (x : State) (es : List Event) → OpenedAs M n own x → AllTyped (callsIn es) → standing (runs M x es) ≡ stand n own (callsIn es)
+      (T : Terms) (own : ℕ) (x : State) (es : List Event) → OpenedAs M T own x → AllTyped (callsIn es) → standing (runs M x es) ≡ stand (seatOf T own) (callsIn es)
   -- a refusal leaves record and lists (and the buffer, by `answered`)
   pub refusals :
-      (n own : ℕ) (x : State) (es : List Event) (w : Way) (c : Call) (k : ℕ) → OpenedAs M n own x → AllTyped (callsIn es) → Typed c
-      → refusal n (after n own (callsIn es)) c ≡ some k → call M w (runs M x es) c .held ≡ runs M x es
+      (T : Terms) (own : ℕ) (x : State) (es : List Event) (w : Way) (c : Call) (k : ℕ) → OpenedAs M T own x → AllTyped (callsIn es) → Typed c
+      → refusal (seatOf T own) (after (seatOf T own) (callsIn es)) c ≡ some k → call M w (runs M x es) c .held ≡ runs M x es
   -- Begin does not write the lists
   pub begins :
-      (n own : ℕ) (x : State) (es : List Event) (w : Way) (b : ℕ) → OpenedAs M n own x → AllTyped (callsIn es) → Typed (begin b)
+      (T : Terms) (own : ℕ) (x : State) (es : List Event) (w : Way) (b : ℕ) → OpenedAs M T own x → AllTyped (callsIn es) → Typed (begin b)
       → call M w (runs M x es) (begin b) .held .lent ≡ runs M x es .lent
 
 -- ---- of a volume, under the premises
@@ -86,11 +87,11 @@ pub record Faithful (M : Machine) : Type 0 where
 pub record Claim (M : Machine) (W : Volume) (from : ℕ → State) (events : ℕ → List Event) : Type 0 where
   -- "no two logs decided in these lists conflict, at two such benches or at one, in any views"
   pub no-conflict :
-      (i j : ℕ) → Keeps W i → Keeps W j → (L K : Log) → Decides (W .n) i (W .calls i) L → Decides (W .n) j (W .calls j) K → Conflict L K → ⊥
+      (i j : ℕ) → Keeps W i → Keeps W j → (L K : Log) → Decides (seat W i) (W .calls i) L → Decides (seat W j) (W .calls j) K → Conflict L K → ⊥
   -- "after its list, or any start of it, each bench's standing decided log is the longest it decided there, empty if none"; and no mark is set
   pub stands :
       (i : ℕ) → Keeps W i → (pre post : List Event) → events i ≡ pre ++ post
-      → LongestDecided (W .n) i (callsIn pre) (standing (runs M (from i) pre) .log) × (standing (runs M (from i) pre) .parted ≡ false)
+      → LongestDecided (seat W i) (callsIn pre) (standing (runs M (from i) pre) .log) × (standing (runs M (from i) pre) .parted ≡ false)
 
 -- ---- the demand
 
@@ -98,7 +99,7 @@ pub record Demand3 (M : Machine) : Type 0 where
   pub alone : Faithful M
   pub agrees :
       (W : Volume) (from : ℕ → State) (events : ℕ → List Event)
-      → ((i : ℕ) → Keeps W i → OpenedAs M (W .n) i (from i))
+      → ((i : ℕ) → Keeps W i → OpenedAs M (W .terms) i (from i))
       → ((i : ℕ) → Keeps W i → callsIn (events i) ≡ W .calls i)
       → ((i : ℕ) → Keeps W i → AllTyped (W .calls i))
       → Delivery W → Numbers W → Majority W → Claim M W from events

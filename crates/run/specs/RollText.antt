@@ -12,6 +12,7 @@ use Rattle.message.specs.Numbers.{put}
 use Rattle.message.specs.Message.{Meaning, logMessage, proposalMessage}
 use Rattle.agreement.specs.Filing.{Word, first, second, known}
 use Rattle.bench.specs.Layout.{Lent, leastLent}
+use Rattle.bench.specs.Terms.{Terms, Seat}
 use Rattle.bench.specs.Calls.{Call, begin, receive, act, Reply, refused, done, took, acted, State, Opening, Step}
 use Rattle.bench.specs.Acts.{Stand}
 use Rattle.bench.specs.History.{History, step, answer, standIn}
@@ -69,11 +70,11 @@ linesOf x [] = []
 linesOf x (c ∷ cs) = lineOf c (stepOf x c) ++ linesOf (stepOf x c .held) cs
 
 -- The same worked out from the list of calls, not from the record: the answers, and what the decisions come to.
-unfoldable pub linesBy : ℕ → ℕ → History → List Call → List ℕ
-linesBy n own p [] = []
-linesBy n own p (c ∷ cs) =
-    let stands : Stand = standIn (step n own p c .actions) in
-    lineFor c (answer n own p c .reply) (length (stands .log)) (stands .parted) ++ linesBy n own (step n own p c) cs
+unfoldable pub linesBy : Seat → History → List Call → List ℕ
+linesBy S p [] = []
+linesBy S p (c ∷ cs) =
+    let stands : Stand = standIn (S .stood) (step S p c .actions) in
+    lineFor c (answer S p c .reply) (length (stands .log)) (stands .parted) ++ linesBy S (step S p c) cs
 
 -- ---- the text
 
@@ -88,6 +89,10 @@ isDone (refused k) = false
 isDone done = true
 isDone (took w) = false
 isDone (acted made) = false
+
+-- the terms of a roll's bench
+abbrev pub termsOf : List ℕ → Terms
+termsOf s = record { n = benchesOf s }
 
 -- "or with n or own number refused": from what Open gave
 unfoldable pub openedText : List ℕ → Lent → Opening → List ℕ

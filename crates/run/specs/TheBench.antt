@@ -5,7 +5,7 @@ use Rattle.run.specs.Demand.{Machine}
 
 abbrev pub theBench : Machine
 theBench = record {
-  open′ = openOf;
+  open′ = λ T own l. openOf (T .n) own l;
   begin′ = λ w x b. beginOf x b;
   receive′ = λ w x bytes. receiveOf x bytes;
   act′ = λ w x block priority out. actOf x block priority out;
