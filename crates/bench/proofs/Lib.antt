@@ -16,6 +16,8 @@ pub mod Refusals
 pub mod TestedLaws
 pub mod Buffer
 pub mod Never
+-- No two answers of the code are read alike:
+pub mod Replies
 -- The tie between record and history, kept by every call:
 pub mod Ties
 pub mod Filling
@@ -27,17 +29,6 @@ pub mod SeenTies
 pub mod Settling
 pub mod ActTies
 pub mod Acting
--- What the code finds, case by case:
-pub mod RecordCases
-pub mod LimitCases
-pub mod Replies
-pub mod CallCases
-pub mod SeeingLaws
-pub mod DecidingLaws
-pub mod WrittenLaws
-pub mod MakingLaws
-pub mod ActCases
-pub mod ReadingCases
 -- Worked examples:
 pub mod Odd
 pub mod Order

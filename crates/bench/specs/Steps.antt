@@ -17,8 +17,8 @@ use Rattle.bench.specs.Record.{beyond}
 use Rattle.bench.specs.ByRecord.{lockOf, seenOf, withMade}
 use Rattle.bench.specs.Answers.{stateOf}
 use Rattle.bench.specs.declared.Bench.{Bench}
-use Rattle.bench.specs.declared.seeing.Found.{Found}
-use Rattle.bench.specs.declared.seeing.Found.the-variants.{At, Nowhere}
+use Rattle.bench.specs.declared.Found.{Found}
+use Rattle.bench.specs.declared.Found.the-variants.{At, Nowhere}
 
 -- ---- 9 (Record: badSender, badProposer): one place of the arrays, by what stands there; `above` where its number is n or above
 

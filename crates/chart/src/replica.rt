@@ -103,7 +103,7 @@ impl Replica {
     pub(crate) fn fresh() -> Replica {
         let names = [0u64; 6208];
         let counts = [0u16; 6208];
-        let opened = bench::open(BENCHES, 0, &names, &counts);
+        let opened = calls::open(BENCHES, 0, &names, &counts);
         let answer = opened.answer;
         let bench = opened.bench;
         Replica {
@@ -118,7 +118,7 @@ impl Replica {
         let before = self.bench;
         let names = self.names;
         let counts = self.counts;
-        let begun = bench::begin(before, &names, &counts, beat);
+        let begun = calls::begin(before, &names, &counts, beat);
         let answer = begun.answer;
         let bench = begun.bench;
         Replica {
@@ -140,7 +140,7 @@ impl Replica {
         let before = self.bench;
         let mut names = self.names;
         let mut counts = self.counts;
-        let received = bench::receive(before, &mut names, &mut counts, front(bytes, blocks));
+        let received = calls::receive(before, &mut names, &mut counts, front(bytes, blocks));
         let answer = received.answer;
         let bench = received.bench;
         Replica {
@@ -157,7 +157,7 @@ impl Replica {
         let mut names = self.names;
         let mut counts = self.counts;
         let mut out = [0u8; 656];
-        let done = bench::act(before, &mut names, &mut counts, &mut out, 0, 0, 0);
+        let done = calls::act(before, &mut names, &mut counts, &mut out, 0, 0, 0);
         let answer = done.answer;
         let bench = done.bench;
         Replica {
@@ -175,7 +175,7 @@ impl Replica {
         let mut names = self.names;
         let mut counts = self.counts;
         let mut out = [0u8; 656];
-        let done = bench::act(before, &mut names, &mut counts, &mut out, 6, 1, 9);
+        let done = calls::act(before, &mut names, &mut counts, &mut out, 6, 1, 9);
         let answer = done.answer;
         let bench = done.bench;
         let made = made(answer, &out);

@@ -11,7 +11,7 @@ use bench::Taken;
 pub fn begin(bench: &mut Bench, names: &[u64], counts: &[u16], beat: u32) -> Start
     ensures { λ r. ⌜ BeginGives (beginOf (stateOf (now (bench .entry)) (now (names .entry)) (now (counts .entry))) beat) (record { answer = r; bench = now (bench .exit) }) (now (names .exit)) (now (counts .exit)) ⌝ }
 {
-    let given = bench::begin(*bench, names, counts, beat);
+    let given = calls::begin(*bench, names, counts, beat);
     *bench = given.bench;
     given.answer
 }
@@ -19,7 +19,7 @@ pub fn begin(bench: &mut Bench, names: &[u64], counts: &[u16], beat: u32) -> Sta
 pub fn receive(bench: &mut Bench, names: &mut [u64], counts: &mut [u16], message: &[u8]) -> Taken
     ensures { λ r. ⌜ ReceiveGives (receiveOf (stateOf (now (bench .entry)) (now (names .entry)) (now (counts .entry))) (now (message .entry))) (record { answer = r; bench = now (bench .exit) }) (now (names .exit)) (now (counts .exit)) ⌝ }
 {
-    let given = bench::receive(*bench, names, counts, message);
+    let given = calls::receive(*bench, names, counts, message);
     *bench = given.bench;
     given.answer
 }
@@ -35,7 +35,7 @@ pub fn act(
 ) -> Made
     ensures { λ r. ⌜ ActGives (actOf (stateOf (now (bench .entry)) (now (names .entry)) (now (counts .entry))) (record { name = name; count = count }) priority (now (out .entry))) (record { answer = r; bench = now (bench .exit) }) (now (names .exit)) (now (counts .exit)) (now (out .exit)) ⌝ }
 {
-    let given = bench::act(*bench, names, counts, out, name, count, priority);
+    let given = calls::act(*bench, names, counts, out, name, count, priority);
     *bench = given.bench;
     given.answer
 }

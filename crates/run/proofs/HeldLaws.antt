@@ -15,8 +15,8 @@ use Rattle.bench.specs.declared.Started.{Started}
 use Rattle.bench.specs.declared.Received.{Received}
 use Rattle.bench.specs.declared.Acted.{Acted}
 use Rattle.run.specs.declared.Offer.{Offer}
-use Rattle.run.specs.Demand.{byValue, Event, runs}
-use Rattle.run.specs.TheBench.{theBench}
+use Rattle.demand.specs.Demand.{byValue, Event, runs}
+use Rattle.demand.specs.TheBench.{theBench}
 use Rattle.run.specs.Roll.{eventsOf, kindAt, lengthAt, bodiesPlace, beginKind, receiveKind, freshBuffer, misfits, callAt, callsFrom}
 use Rattle.run.specs.RollText.{lineOf, stepOf, linesOf}
 use Rattle.run.specs.RollSteps.{offerAt, Shaped}

@@ -19,11 +19,11 @@ use Rattle.bench.specs.Calls.{Call, Answer, Reply, refused, done, took, acted, 
 use Rattle.bench.specs.Acts.{Stand}
 use Rattle.bench.specs.History.{History, fresh, step, standIn}
 use Rattle.bench.specs.ByRecord.{openOf, standing}
-use Rattle.run.specs.Demand.{byValue, OpenedAs}
-use Rattle.run.specs.TheBench.{theBench}
+use Rattle.demand.specs.Demand.{byValue, OpenedAs}
+use Rattle.demand.specs.TheBench.{theBench}
 use Rattle.run.specs.Roll.{benchesOf, ownOf, eventsOf, bodiesPlace, misshapen, markPlace, kindAt, lengthAt, beginKind, receiveKind, callAt, callsFrom, callsOf}
 use Rattle.run.specs.RollText.{termsOf, stepOf, linesOf, linesBy, firstLine, isDone, openedText, freshLists, textOf}
-use Rattle.run.proofs.TheDemand.{bench-simulates}
+use Rattle.demand.proofs.TheDemand.{bench-simulates}
 
 -- D is the length of the log that stands
 decided-length : (x : State) (s : Stand) → standing x ≡ s → x .bench .decided ≡ length (s .log)

@@ -1,8 +1,4 @@
--- What a reader of this crate must believe: the statement of demand 3,
-pub mod Places
-pub mod Premises
-pub mod Demand
-pub mod TheBench
+-- What a reader of this crate must believe:
 -- the text of a roll,
 pub mod Texts
 pub mod Roll

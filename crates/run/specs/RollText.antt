@@ -17,8 +17,8 @@ use Rattle.bench.specs.Calls.{Call, begin, receive, act, Reply, refused, done, 
 use Rattle.bench.specs.Acts.{Stand}
 use Rattle.bench.specs.History.{History, step, answer, standIn}
 use Rattle.bench.specs.ByRecord.{openOf}
-use Rattle.run.specs.Demand.{byValue, call}
-use Rattle.run.specs.TheBench.{theBench}
+use Rattle.demand.specs.Demand.{byValue, call}
+use Rattle.demand.specs.TheBench.{theBench}
 use Rattle.run.specs.Texts.{ascii, decimal}
 use Rattle.run.specs.Roll.{mostRoll, benchesOf, ownOf, misshapen, callsOf}
 

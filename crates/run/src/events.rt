@@ -63,19 +63,19 @@ fn print_events(
         i += 1;
         if kind == BEGIN_KIND {
             let beat = u32_in(roll, from);
-            let started = bench::begin(b, names, counts, beat);
+            let started = calls::begin(b, names, counts, beat);
             let answer = started.answer;
             b = started.bench;
             p = put_begun(text, p, beat, answer);
         } else if kind == RECEIVE_KIND {
-            let received = bench::receive(b, names, counts, &roll[from..body]);
+            let received = calls::receive(b, names, counts, &roll[from..body]);
             let answer = received.answer;
             b = received.bench;
             p = put_taken(text, p, answer);
         } else {
             let offer = offer_in(roll, from);
             let mut out = [0; 656];
-            let acted = bench::act(
+            let acted = calls::act(
                 b,
                 names,
                 counts,
@@ -105,7 +105,7 @@ pub(crate) fn print_roll(
 {
     let n = roll[0];
     let own = roll[1];
-    let started = bench::open(n, own, names, counts);
+    let started = calls::open(n, own, names, counts);
     let answer = started.answer;
     let opened = started.bench;
     match answer {

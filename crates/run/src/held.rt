@@ -37,15 +37,15 @@ pub(crate) fn run_events(
         body += length_at(roll, i);
         i += 1;
         if kind == BEGIN_KIND {
-            let started = bench::begin(b, names, counts, u32_in(roll, from));
+            let started = calls::begin(b, names, counts, u32_in(roll, from));
             b = started.bench;
         } else if kind == RECEIVE_KIND {
-            let received = bench::receive(b, names, counts, &roll[from..body]);
+            let received = calls::receive(b, names, counts, &roll[from..body]);
             b = received.bench;
         } else {
             let offer = offer_in(roll, from);
             let mut out = [0; 656];
-            let acted = bench::act(
+            let acted = calls::act(
                 b,
                 names,
                 counts,

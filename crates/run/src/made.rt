@@ -52,7 +52,7 @@ fn act_in(
     ensures { λ r. ⌜ GivesMade (madeBy (actOf (stateOf bench (now (names .entry)) (now (counts .entry))) (offeredAt (now (roll .entry)) at) (priorityAt (now (roll .entry)) at) (now (out .entry)) .answer .reply)) (now (out .entry)) r (now (out .exit)) ⌝ }
 {
     let offer = offer_in(roll, at);
-    let acted = bench::act(
+    let acted = calls::act(
         bench,
         names,
         counts,
@@ -93,7 +93,7 @@ pub(crate) fn make_event(
     requires { ⌜ Shaped (now roll) × (event ≤ eventsOf (now roll)) ⌝ }
     ensures { λ r. ⌜ GivesMade (madeOn (now (roll .entry)) (lentAs (now (names .entry)) (now (counts .entry))) event (now (out .entry))) (now (out .entry)) r (now (out .exit)) ⌝ }
 {
-    let started = bench::open(roll[0], roll[1], names, counts);
+    let started = calls::open(roll[0], roll[1], names, counts);
     let answer = started.answer;
     let opened = started.bench;
     match answer {

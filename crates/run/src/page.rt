@@ -25,7 +25,7 @@ fn page_after(
     ensures { λ r. ⌜ GivesPage false (heldAfter (stateOf opened (now (names .entry)) (now (counts .entry))) (firstCalls (now (roll .entry)) calls)) (lentAs (now (names .entry)) (now (counts .entry))) (now (page .entry)) r (now (names .exit)) (now (counts .exit)) (now (page .exit)) ⌝ }
 {
     let held = run_events(opened, names, counts, roll, calls);
-    let read = bench::reading(held, names, counts);
+    let read = calls::reading(held, names, counts);
     put_page(page, held, read)
 }
 
@@ -40,7 +40,7 @@ pub(crate) fn page_roll(
     requires { ⌜ (pageLength ≤ length (now page)) × (Shaped (now roll) × (calls ≤ eventsOf (now roll))) ⌝ }
     ensures { λ r. ⌜ GivesPage (openRefuses (now (roll .entry)) (lentAs (now (names .entry)) (now (counts .entry)))) (heldAt (now (roll .entry)) (lentAs (now (names .entry)) (now (counts .entry))) calls) (lentAs (now (names .entry)) (now (counts .entry))) (now (page .entry)) r (now (names .exit)) (now (counts .exit)) (now (page .exit)) ⌝ }
 {
-    let started = bench::open(roll[0], roll[1], names, counts);
+    let started = calls::open(roll[0], roll[1], names, counts);
     let answer = started.answer;
     let opened = started.bench;
     match answer {

@@ -11,7 +11,7 @@ use Rattle.bench.specs.declared.Bench.{Bench}
 use Rattle.bench.specs.declared.Start.{Start}
 use Rattle.bench.specs.declared.Taken.{Taken}
 use Rattle.bench.specs.declared.Made.{Made}
-use Rattle.run.specs.Demand.{runs, answers}
+use Rattle.demand.specs.Demand.{runs, answers}
 use Rattle.schedules.specs.Gathering.{gatheringOf, GatheringGives}
 
 module _ (x : State) (beat : ℕ) (message : List ℕ) (block : Block) (priority : ℕ) (out : List ℕ) (h₁ h₂ h₃ : Bench) (ns₁ cs₁ ns₂ cs₂ ns₃ cs₃ left : List ℕ) (r₁ : Start) (r₂ : Taken) (r₃ : Made) where

@@ -6,8 +6,8 @@ use mathlib.Core.Path.{_≡_}
 use Rattle.message.specs.Logs.{Block}
 use Rattle.bench.specs.Calls.{Call, begin, receive, act, Answer, State}
 use Rattle.bench.specs.Answers.{stateOf, startReply, takenReply, madeReply}
-use Rattle.run.specs.Demand.{Event, onLent, runs, answers}
-use Rattle.run.specs.TheBench.{theBench}
+use Rattle.demand.specs.Demand.{Event, onLent, runs, answers}
+use Rattle.demand.specs.TheBench.{theBench}
 use Rattle.schedules.specs.declared.gathering.Gathered.{Gathered}
 
 abbrev pub lent : Call → Event

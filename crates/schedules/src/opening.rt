@@ -8,7 +8,7 @@ fn say_open(n: u8, own: u8, names: &[u64], counts: &[u16], lists: &[u8]) {
     say(b"open ");
     say_bench(n, own);
     say(lists);
-    let opened = bench::open(n, own, names, counts);
+    let opened = calls::open(n, own, names, counts);
     let answer = opened.answer;
     say_start(answer);
     say(b"\n");

@@ -46,7 +46,7 @@ impl Schedule {
         say_bench(n, own);
         let names = [0u64; 6208];
         let counts = [0u16; 6208];
-        let opened = bench::open(n, own, &names, &counts);
+        let opened = calls::open(n, own, &names, &counts);
         let bench = opened.bench;
         Schedule {
             bench,
@@ -61,7 +61,7 @@ impl Schedule {
         let before = self.bench;
         let names = self.names;
         let counts = self.counts;
-        let started = bench::begin(before, &names, &counts, beat);
+        let started = calls::begin(before, &names, &counts, beat);
         let answer = started.answer;
         let bench = started.bench;
         say_start(answer);
@@ -77,7 +77,7 @@ impl Schedule {
         let before = self.bench;
         let mut names = self.names;
         let mut counts = self.counts;
-        let received = bench::receive(before, &mut names, &mut counts, front(bytes, size));
+        let received = calls::receive(before, &mut names, &mut counts, front(bytes, size));
         let answer = received.answer;
         let bench = received.bench;
         say_taken(answer);
@@ -113,7 +113,7 @@ impl Schedule {
         let before = self.bench;
         let mut names = self.names;
         let mut counts = self.counts;
-        let acted = bench::act(before, &mut names, &mut counts, out, name, 1, priority);
+        let acted = calls::act(before, &mut names, &mut counts, out, name, 1, priority);
         let answer = acted.answer;
         let bench = acted.bench;
         say_made(answer, bench.decided, bench.parted);

@@ -1,4 +1,4 @@
--- `lent::act` meets its contract: a walk of its MIR, by the steps of LentSteps around the call of `bench::act`. Assumes nothing.
+-- `lent::act` meets its contract: a walk of its MIR, by the steps of LentSteps around the call of `calls::act`. Assumes nothing.
 use mathlib.Core.Path.{_≡_, refl}
 use Prim.Native.Nat.{ℕ, _<_, _^_}
 use mathlib.Core.List.{[], _∷_, List}
@@ -48,10 +48,10 @@ use Rattle.bench.proofs.Acted as R
 use Rattle.bench.proofs.Acted.Laws as R′
 use Rattle.bench.proofs.Made as S
 use Rattle.bench.proofs.Made.Laws as S′
-use Rattle.bench.proofs.act as callee
-use Rattle.bench.proofs.act.Symbol as callee-def
-use Rattle.bench.proofs.act.Symbol.{name as #callee}
-use Rattle.bench.proofs.act.Met as callee-thm
+use Rattle.calls.proofs.act as callee
+use Rattle.calls.proofs.act.Symbol as callee-def
+use Rattle.calls.proofs.act.Symbol.{name as #callee}
+use Rattle.calls.proofs.act.Met as callee-thm
 use Rattle.lent.proofs.act.Key.{name as #here}
 use Rattle.lent.proofs.act as here
 use Rattle.lent.proofs.act.Statement as stated
@@ -247,4 +247,4 @@ act-spec 𝓤 H 𝓜 𝓖 𝓡 =
     entered 𝓤 H (tripleOf 𝓤 H (𝓖 .A) here.signature (here.spec 𝓤 H (𝓖 .A) (𝓜 .mem) (𝓡 .run))) (tables 𝓤 H 𝓜 𝓡 code.env .C)
     (tables 𝓤 H 𝓜 𝓡 code.env .Λ) #here code.function (code.unfolded 𝓤 H 𝓜 𝓡)
     (meets 𝓤 H (𝓖 .A) (givenOf 𝓤 H 𝓜 𝓖) (𝓜 .mem) (𝓡 .run) (tablesOf 𝓤 H 𝓜 (tables 𝓤 H 𝓜 𝓡 code.env))
-    (cited 𝓤 H (Callee 𝓤 H (𝓖 .A) (𝓜 .mem) (𝓡 .run)) 𝓜 𝓡 code.env #callee callee-def.routine code.calls-bench·act (callee-thm.met 𝓤 H 𝓜 𝓖 𝓡)))
+    (cited 𝓤 H (Callee 𝓤 H (𝓖 .A) (𝓜 .mem) (𝓡 .run)) 𝓜 𝓡 code.env #callee callee-def.routine code.calls-calls·act (callee-thm.met 𝓤 H 𝓜 𝓖 𝓡)))

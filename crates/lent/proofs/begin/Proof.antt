@@ -1,4 +1,4 @@
--- `lent::begin` meets its contract: a walk of its MIR, by the steps of LentSteps around the call of `bench::begin`. Assumes nothing.
+-- `lent::begin` meets its contract: a walk of its MIR, by the steps of LentSteps around the call of `calls::begin`. Assumes nothing.
 use mathlib.Core.Path.{refl}
 use Prim.Native.Nat.{ℕ, _<_, _^_}
 use mathlib.Core.List.{[], _∷_, List}
@@ -48,10 +48,10 @@ use Rattle.bench.proofs.Started as R
 use Rattle.bench.proofs.Started.Laws as R′
 use Rattle.bench.proofs.Start as S
 use Rattle.bench.proofs.Start.Laws as S′
-use Rattle.bench.proofs.begin as callee
-use Rattle.bench.proofs.begin.Symbol as callee-def
-use Rattle.bench.proofs.begin.Symbol.{name as #callee}
-use Rattle.bench.proofs.begin.Met as callee-thm
+use Rattle.calls.proofs.begin as callee
+use Rattle.calls.proofs.begin.Symbol as callee-def
+use Rattle.calls.proofs.begin.Symbol.{name as #callee}
+use Rattle.calls.proofs.begin.Met as callee-thm
 use Rattle.lent.proofs.begin.Key.{name as #here}
 use Rattle.lent.proofs.begin as here
 use Rattle.lent.proofs.begin.Statement as stated
@@ -202,4 +202,4 @@ begin-spec 𝓤 H 𝓜 𝓖 𝓡 =
     entered 𝓤 H (tripleOf 𝓤 H (𝓖 .A) here.signature (here.spec 𝓤 H (𝓖 .A) (𝓜 .mem) (𝓡 .run))) (tables 𝓤 H 𝓜 𝓡 code.env .C)
     (tables 𝓤 H 𝓜 𝓡 code.env .Λ) #here code.function (code.unfolded 𝓤 H 𝓜 𝓡)
     (meets 𝓤 H (𝓖 .A) (givenOf 𝓤 H 𝓜 𝓖) (𝓜 .mem) (𝓡 .run) (tablesOf 𝓤 H 𝓜 (tables 𝓤 H 𝓜 𝓡 code.env))
-    (cited 𝓤 H (Callee 𝓤 H (𝓖 .A) (𝓜 .mem) (𝓡 .run)) 𝓜 𝓡 code.env #callee callee-def.routine code.calls-bench·begin (callee-thm.met 𝓤 H 𝓜 𝓖 𝓡)))
+    (cited 𝓤 H (Callee 𝓤 H (𝓖 .A) (𝓜 .mem) (𝓡 .run)) 𝓜 𝓡 code.env #callee callee-def.routine code.calls-calls·begin (callee-thm.met 𝓤 H 𝓜 𝓖 𝓡)))

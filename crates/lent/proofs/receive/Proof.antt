@@ -1,4 +1,4 @@
--- `lent::receive` meets its contract: a walk of its MIR, by the steps of LentSteps around the call of `bench::receive`. Assumes nothing.
+-- `lent::receive` meets its contract: a walk of its MIR, by the steps of LentSteps around the call of `calls::receive`. Assumes nothing.
 use mathlib.Core.Path.{_≡_, refl}
 use Prim.Native.Nat.{ℕ, _<_, _^_}
 use mathlib.Core.List.{[], _∷_, List}
@@ -47,10 +47,10 @@ use Rattle.bench.proofs.Received as R
 use Rattle.bench.proofs.Received.Laws as R′
 use Rattle.bench.proofs.Taken as S
 use Rattle.bench.proofs.Taken.Laws as S′
-use Rattle.bench.proofs.receive as callee
-use Rattle.bench.proofs.receive.Symbol as callee-def
-use Rattle.bench.proofs.receive.Symbol.{name as #callee}
-use Rattle.bench.proofs.receive.Met as callee-thm
+use Rattle.calls.proofs.receive as callee
+use Rattle.calls.proofs.receive.Symbol as callee-def
+use Rattle.calls.proofs.receive.Symbol.{name as #callee}
+use Rattle.calls.proofs.receive.Met as callee-thm
 use Rattle.lent.proofs.receive.Key.{name as #here}
 use Rattle.lent.proofs.receive as here
 use Rattle.lent.proofs.receive.Statement as stated
@@ -210,4 +210,4 @@ receive-spec 𝓤 H 𝓜 𝓖 𝓡 =
     entered 𝓤 H (tripleOf 𝓤 H (𝓖 .A) here.signature (here.spec 𝓤 H (𝓖 .A) (𝓜 .mem) (𝓡 .run))) (tables 𝓤 H 𝓜 𝓡 code.env .C)
     (tables 𝓤 H 𝓜 𝓡 code.env .Λ) #here code.function (code.unfolded 𝓤 H 𝓜 𝓡)
     (meets 𝓤 H (𝓖 .A) (givenOf 𝓤 H 𝓜 𝓖) (𝓜 .mem) (𝓡 .run) (tablesOf 𝓤 H 𝓜 (tables 𝓤 H 𝓜 𝓡 code.env))
-    (cited 𝓤 H (Callee 𝓤 H (𝓖 .A) (𝓜 .mem) (𝓡 .run)) 𝓜 𝓡 code.env #callee callee-def.routine code.calls-bench·receive (callee-thm.met 𝓤 H 𝓜 𝓖 𝓡)))
+    (cited 𝓤 H (Callee 𝓤 H (𝓖 .A) (𝓜 .mem) (𝓡 .run)) 𝓜 𝓡 code.env #callee callee-def.routine code.calls-calls·receive (callee-thm.met 𝓤 H 𝓜 𝓖 𝓡)))

@@ -1,0 +1,183 @@
+-- A made message: it can be written, is filed from the outgoing buffer as its bytes are, and read back from there as it was meant. Assumes nothing.
+use Prim.Native.Nat.{ℕ, _+_, _^_, _≤_, _<_}
+use native.Mathlib.Omega.{arith}
+use mathlib.Core.Bool.{Bool, true}
+use mathlib.Core.List.{List, [], _∷_, _++_}
+use mathlib.Core.Option.{some}
+use mathlib.Core.Path.{_≡_, refl, sym, ap, subst, _∙_}
+use mir.Syntax.{w16, w64}
+use mir.Val.{Fits}
+use lib.ListN.{length, getD, length-append}
+use Rattle.message.specs.Limits.{mostBlocks}
+use Rattle.message.specs.Numbers.{AllBelow, put}
+use Rattle.message.specs.Logs.{Block, Log, namesOf, countsOf}
+use Rattle.message.specs.Message.{Content, Meaning, logMessage, proposalMessage, said, logOf, bytesOf}
+use Rattle.message.specs.Store.{logAt, Writes, roomFor, logFrom, writeLogOf, proposalFrom, writeProposalOf}
+use Rattle.message.proofs.PartLaws.{part-below, one-below, append-below}
+use Rattle.message.proofs.LogLaws.{names-append, counts-append, names-one, counts-one}
+use Rattle.message.proofs.ListedLaws.{length-at, names-at, counts-at}
+use Rattle.message.proofs.WrittenFields.{length-message}
+use Rattle.message.proofs.Inside.{room-yes, written-inside, count-made, same-count, same-holds, same-log, content-made, priority-made}
+use Rattle.agreement.specs.Filing.{Files, fileOf}
+use Rattle.agreement.specs.Proposals.{FilesProposal, fileProposalOf}
+use Rattle.agreement.specs.declared.Agreement.{Agreement}
+use Rattle.agreement.specs.declared.Filed.{Filed}
+use Rattle.agreement.specs.declared.FiledProposal.{FiledProposal}
+use Rattle.agreement.specs.declared.Proposals.{Proposals}
+use Rattle.agreement.proofs.BytesLaws.{same-filed, same-proposal-filed}
+use Rattle.bench.specs.Layout.{logsPlace, proposalsPlace}
+use Rattle.bench.specs.Calls.{acted, State}
+use Rattle.bench.specs.Record.{agreementOf, proposalsOf, withAgreement, withProposals}
+use Rattle.bench.specs.ByRecord.{Outcome, logOutcome, proposalOutcome, fileLog, fileProposal, fileMessage}
+use Rattle.bench.specs.Answers.{stateOf, contentMade, madeReply, ActGives}
+use Rattle.bench.specs.Steps.{Making, madeStep, Leaves}
+use Rattle.bench.specs.declared.Bench.{Bench}
+use Rattle.bench.specs.declared.Made.{Made}
+use Rattle.bench.specs.declared.Made.the-variants as makings
+use Rattle.bench.proofs.TestedLaws.{before-within, long-out}
+
+-- it can be written, and the buffer has room for it
+record Makeable (out : List ℕ) (m : Meaning) : Type 0 where
+  pub few : length (logOf m) ≤ mostBlocks
+  pub room : length (bytesOf m) ≤ length out
+  pub view : said m .view < 256 ^ 4
+  pub names : AllBelow (2 ^ 64) (namesOf (logOf m))
+  pub counts : AllBelow (2 ^ 16) (countsOf (logOf m))
+
+-- ---- what making one asks is enough for it
+
+module _ {s : State} {out : List ℕ} {v a k : ℕ} (p : Making s out v a k) where
+  -- a log of n blocks has room
+  made-room : (n : ℕ) → n ≤ mostBlocks → roomFor out (s .lent .names) (s .lent .counts) a k n ≡ true
+  made-room n h =
+      let o = long-out (p .tested) in
+      room-yes out (s .lent .names) (s .lent .counts) a k n h (before-within (s .lent) (p .tested .usable .lists) a k (p .before)) (omega arith)
+
+  makeable : (m : Meaning) → length (logOf m) ≤ mostBlocks → said m .view ≡ v
+      → AllBelow (2 ^ 64) (namesOf (logOf m)) → AllBelow (2 ^ 16) (countsOf (logOf m)) → Makeable out m
+  makeable m h e n c =
+      let l = length-message m in
+      let o = long-out (p .tested) in
+      let x = p .early in
+      record { few = h; room = omega arith; view = omega arith; names = n; counts = c }
+
+-- ---- filed from the buffer
+
+module _ (out : List ℕ) (m : Meaning) (w : Makeable out m) (s : State) (v i : ℕ) where
+  log-filed : fileLog s (put out 0 (bytesOf m)) v i ≡ fileLog s (bytesOf m) v i
+  log-filed =
+      ap (logOutcome s v)
+      (same-filed (s .lent .names) (s .lent .counts) (logsPlace v) i (put out 0 (bytesOf m)) (bytesOf m) (same-count out m (w .room))
+      (same-holds out m (w .room) (w .few)) (same-log out m (w .room) (w .names) (w .counts)) (agreementOf (s .bench) v))
+
+  proposal-filed : (priority : ℕ) → fileProposal s (put out 0 (bytesOf m)) v i priority ≡ fileProposal s (bytesOf m) v i priority
+  proposal-filed priority =
+      ap (proposalOutcome s)
+      (same-proposal-filed (s .lent .names) (s .lent .counts) proposalsPlace i (put out 0 (bytesOf m)) (bytesOf m) (same-count out m (w .room))
+      (same-holds out m (w .room) (w .few)) (same-log out m (w .room) (w .names) (w .counts)) (proposalsOf (s .bench) v) priority)
+
+-- by its kind
+filed-same : (out : List ℕ) (m : Meaning) → Makeable out m → (s : State) → fileMessage s (put out 0 (bytesOf m)) m ≡ fileMessage s (bytesOf m) m
+unfolding fileMessage
+filed-same out (logMessage m) w s = log-filed out (logMessage m) w s (m .view) (m .sender)
+filed-same out (proposalMessage m priority) w s = proposal-filed out (proposalMessage m priority) w s (m .view) (m .sender) priority
+
+-- ---- the answer, as it is read from the buffer
+
+-- the block count that is answered is the one that the buffer says
+content-read : (out : List ℕ) (m : Meaning) (k : ℕ) → Makeable out m → length (logOf m) ≡ k → contentMade (put out 0 (bytesOf m)) k ≡ said m
+content-read out m k w e =
+    ap (contentMade (put out 0 (bytesOf m))) (sym e ∙ sym (count-made out m (w .room)))
+    ∙ content-made out m (w .room) (w .view) (w .names) (w .counts)
+
+log-reply : (out : List ℕ) (m : Content) (k : ℕ) → Makeable out (logMessage m) → length (m .log) ≡ k
+    → madeReply (put out 0 (bytesOf (logMessage m))) (makings.Log k) ≡ acted (some (logMessage m))
+unfolding madeReply
+log-reply out m k w e = ap (λ (c : Content). acted (some (logMessage c))) (content-read out (logMessage m) k w e)
+
+proposal-reply : (out : List ℕ) (m : Content) (priority k : ℕ) → Makeable out (proposalMessage m priority) → priority < 256 ^ 8 → length (m .log) ≡ k
+    → madeReply (put out 0 (bytesOf (proposalMessage m priority))) (makings.Proposal k) ≡ acted (some (proposalMessage m priority))
+unfolding madeReply
+proposal-reply out m priority k w h e =
+    let c = content-read out (proposalMessage m priority) k w e in
+    let p = priority-made out m priority (w .room) h in
+    λ i. acted (some (proposalMessage (c i) (p i)))
+
+-- ---- written, filed from the buffer and answered
+
+module _ (s : State) (out : List ℕ) (m : Meaning) (w : Makeable out m) (a : Made) (o : List ℕ) (c : Bench) (ns cs : List ℕ) where
+  made-acts : o ≡ put out 0 (bytesOf m) → madeReply (put out 0 (bytesOf m)) a ≡ acted (some m) → Leaves (fileMessage s o m .held) c ns cs
+      → ActGives (madeStep s out m) (record { answer = a; bench = c }) ns cs o
+  made-acts e q r =
+      let x : fileMessage s o m ≡ fileMessage s (bytesOf m) m = ap (λ (l : List ℕ). fileMessage s l m) e ∙ filed-same out m w s in
+      record {
+        answered = ap (λ (l : List ℕ). madeReply l a) e ∙ q;
+        bench = r .bench ∙ ap (λ (y : Outcome). y .held .bench) x;
+        nameList = r .nameList ∙ ap (λ (y : Outcome). y .held .lent .names) x;
+        countList = r .countList ∙ ap (λ (y : Outcome). y .held .lent .counts) x;
+        buffer = e;
+      }
+
+-- ---- filed as one's own
+
+module _ (b : Bench) (names counts bytes : List ℕ) (v : ℕ) (ns cs : List ℕ) where
+  pub own-log : (g : Agreement) (base : ℕ) (f : Filed) (c : Bench) → g ≡ agreementOf b v → base ≡ logsPlace v
+      → Files (fileOf g names counts base bytes (b .own)) f ns cs → c ≡ withAgreement b v (f .agreement)
+      → Leaves (fileLog (stateOf b names counts) bytes v (b .own) .held) c ns cs
+  own-log g base f c h k d x =
+      let t : Files (fileOf (agreementOf b v) names counts (logsPlace v) bytes (b .own)) f ns cs = rw (← h, ← k) d in
+      record { bench = x ∙ ap (withAgreement b v) (t .agreement); nameList = t .nameList; countList = t .countList }
+
+  pub own-proposal : (priority : ℕ) (g : Proposals) (f : FiledProposal) → g ≡ proposalsOf b v
+      → FilesProposal (fileProposalOf g names counts proposalsPlace bytes (b .own) priority) f ns cs
+      → Leaves (fileProposal (stateOf b names counts) bytes v (b .own) priority .held) (withProposals b (f .proposals)) ns cs
+  own-proposal priority g f h d =
+      let t : FilesProposal (fileProposalOf (proposalsOf b v) names counts proposalsPlace bytes (b .own) priority) f ns cs = rw (← h) d in
+      record { bench = ap (withProposals b) (t .proposals); nameList = t .nameList; countList = t .countList }
+
+-- ---- the LOG and the PROPOSAL of the blocks at a place
+
+module _ (b : Bench) (names counts out : List ℕ) (v a k : ℕ) (hn : (i : ℕ) → Fits w64 (getD names i 0)) (hc : (i : ℕ) → Fits w16 (getD counts i 0))
+    (r : Bool) (o : List ℕ) (ns cs : List ℕ) where
+  abbrev L : Log
+  L = logAt names counts a k
+
+  names-fit : AllBelow (2 ^ 64) (namesOf L)
+  names-fit = subst (AllBelow (2 ^ 64)) (sym (names-at names counts a k)) (part-below (2 ^ 64) names a k (λ i. hn i .fits))
+
+  counts-fit : AllBelow (2 ^ 16) (countsOf L)
+  counts-fit = subst (AllBelow (2 ^ 16)) (sym (counts-at names counts a k)) (part-below (2 ^ 16) counts a k (λ i. hc i .fits))
+
+  pub log-acts : Making (stateOf b names counts) out v a k → Writes (writeLogOf out names counts a k (b .own) v) r o
+      → (c : Bench) → Leaves (fileLog (stateOf b names counts) o v (b .own) .held) c ns cs
+      → ActGives (madeStep (stateOf b names counts) out (logFrom names counts a k (b .own) v)) (record { answer = makings.Log k; bench = c }) ns cs o
+  unfolding fileMessage
+  log-acts p x c y =
+      let m : Content = record { sender = b .own; view = v; log = L } in
+      let l = length-at names counts a k in
+      let few = p .before .1 in
+      let w = makeable p (logMessage m) (omega arith) refl names-fit counts-fit in
+      let e = written-inside (roomFor out names counts a k k) out (logMessage m) r o (made-room p k few) x .1 in
+      made-acts (stateOf b names counts) out (logMessage m) w (makings.Log k) o c ns cs e (log-reply out m k w l) y
+
+  pub proposal-acts : (name count priority : ℕ) → Fits w64 name → Fits w16 count → Fits w64 priority
+      → (Making (stateOf b names counts) out v a k) × (k < mostBlocks)
+      → Writes (writeProposalOf out names counts a k (record { name = name; count = count }) (b .own) v priority) r o
+      → (c : Bench) → Leaves (fileProposal (stateOf b names counts) o v (b .own) priority .held) c ns cs
+      → ActGives (madeStep (stateOf b names counts) out (proposalFrom names counts a k (record { name = name; count = count }) (b .own) v priority))
+      (record { answer = makings.Proposal (k + 1); bench = c }) ns cs o
+  unfolding fileMessage
+  proposal-acts name count priority tn tc tp (p, h) x c y =
+      let block : Block = record { name = name; count = count } in
+      let m : Content = record { sender = b .own; view = v; log = L ++ (block ∷ []) } in
+      let l : length (L ++ (block ∷ [])) ≡ k + 1 = length-append L (block ∷ []) ∙ ap (λ (j : ℕ). j + 1) (length-at names counts a k) in
+      let w = makeable p (proposalMessage m priority) (omega arith) refl
+      (subst (AllBelow (2 ^ 64)) (sym (names-append L (block ∷ [])))
+      (append-below (2 ^ 64) (namesOf L) (namesOf (block ∷ [])) names-fit
+      (subst (AllBelow (2 ^ 64)) (sym (names-one block)) (one-below (2 ^ 64) name (tn .fits)))))
+      (subst (AllBelow (2 ^ 16)) (sym (counts-append L (block ∷ [])))
+      (append-below (2 ^ 16) (countsOf L) (countsOf (block ∷ [])) counts-fit
+      (subst (AllBelow (2 ^ 16)) (sym (counts-one block)) (one-below (2 ^ 16) count (tc .fits))))) in
+      let e = written-inside (roomFor out names counts a k (k + 1)) out (proposalMessage m priority) r o (made-room p (k + 1) (omega arith)) x .1 in
+      made-acts (stateOf b names counts) out (proposalMessage m priority) w (makings.Proposal (k + 1)) o c ns cs e
+      (proposal-reply out m priority (k + 1) w (tp .fits) l) y

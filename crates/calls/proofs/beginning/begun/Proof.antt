@@ -1,0 +1,28 @@
+use borrow.Author.Needs.{needs}
+use Rattle.calls.proofs.beginning.begun.Statement.{statement}
+use Rattle.calls.proofs.beginning.begun.Tie as tie
+
+kept-agreement-requires : tie.Need-kept-agreement-requires
+kept-agreement-requires c κs = search needs
+
+kept-agreement-requires-2 : tie.Need-kept-agreement-requires-2
+kept-agreement-requires-2 c κs = search needs
+
+kept-proposals-requires : tie.Need-kept-proposals-requires
+kept-proposals-requires c κs = search needs
+
+add-t6 : tie.Need-add-t6
+add-t6 c = search needs
+
+returns : tie.Need-returns
+returns c = cc
+
+pub begun-spec : {M : Type 1} → statement M
+begun-spec =
+    tie.close
+    (tie.spec
+    kept-agreement-requires
+    kept-agreement-requires-2
+    kept-proposals-requires
+    add-t6
+    returns)

@@ -1,0 +1,53 @@
+use Rattle.calls.proofs.DecidingLaws.{decision-before, decide-none, decide-some}
+use borrow.Author.Needs.{needs}
+use Rattle.calls.proofs.deciding.decide.Statement.{statement}
+use Rattle.calls.proofs.deciding.decide.Tie as tie
+
+decision-requires : tie.Need-decision-requires
+decision-requires c κs = search needs
+
+enum-known-i : tie.Need-enum-known-i
+enum-known-i c = search needs
+
+enum-told : tie.Need-enum-told
+enum-told c = search needs
+
+same-length : tie.Need-same-length
+same-length c = search needs
+
+same-length-2 : tie.Need-same-length-2
+same-length-2 c = search needs
+
+returns : tie.Need-returns
+returns c = search decide-none
+
+place-before-requires : tie.Need-place-before-requires
+place-before-requires c κs = search needs
+
+settle-requires : tie.Need-settle-requires
+settle-requires c κs = (search needs, search decision-before)
+
+same-length-3 : tie.Need-same-length-3
+same-length-3 c = search needs
+
+same-length-4 : tie.Need-same-length-4
+same-length-4 c = search needs
+
+returns-2 : tie.Need-returns-2
+returns-2 c = search decide-some
+
+pub decide-spec : {M : Type 1} → statement M
+decide-spec =
+    tie.close
+    (tie.spec
+    decision-requires
+    enum-known-i
+    enum-told
+    same-length
+    same-length-2
+    returns
+    place-before-requires
+    settle-requires
+    same-length-3
+    same-length-4
+    returns-2)

@@ -1,0 +1,72 @@
+use Rattle.calls.proofs.CallCases.{filed-even, filed-odd}
+use borrow.Author.Needs.{needs}
+use Rattle.calls.proofs.filing.file_log.Statement.{statement}
+use Rattle.calls.proofs.filing.file_log.Tie as tie
+use Rattle.calls.proofs.filing.file_log.Reads as reads
+use Rattle.calls.proofs.filing.file_log.Lts as lts
+use Rattle.agreement.proofs.filing.file.Reads as file-reads
+use Rattle.calls.proofs.filing.word.Reads as word-reads
+use Rattle.calls.proofs.record.is_even.Reads as is-even-reads
+use Rattle.calls.proofs.record.logs_place.Reads as logs-place-reads
+use Rattle.calls.proofs.record.of_view.Reads as of-view-reads
+
+logs-place-requires : tie.Need-logs-place-requires
+logs-place-requires c κs = search needs
+
+is-even-requires : tie.Need-is-even-requires
+is-even-requires c κs = search needs
+
+of-view-requires : tie.Need-of-view-requires
+of-view-requires c κs = search needs
+
+file-requires : tie.Need-file-requires
+file-requires c κs = search needs
+
+word-requires : tie.Need-word-requires
+word-requires c κs = search needs
+
+same-length : tie.Need-same-length
+same-length c = search needs
+
+same-length-2 : tie.Need-same-length-2
+same-length-2 c = search needs
+
+returns : tie.Need-returns
+returns c = search filed-even
+
+of-view-requires-2 : tie.Need-of-view-requires-2
+of-view-requires-2 c κs = search needs
+
+file-requires-2 : tie.Need-file-requires-2
+file-requires-2 c κs = search needs
+
+word-requires-2 : tie.Need-word-requires-2
+word-requires-2 c κs = search needs
+
+same-length-3 : tie.Need-same-length-3
+same-length-3 c = search needs
+
+same-length-4 : tie.Need-same-length-4
+same-length-4 c = search needs
+
+returns-2 : tie.Need-returns-2
+returns-2 c = search filed-odd
+
+pub file-log-spec : {M : Type 1} → statement M
+file-log-spec =
+    tie.close
+    (tie.spec
+    logs-place-requires
+    is-even-requires
+    of-view-requires
+    file-requires
+    word-requires
+    same-length
+    same-length-2
+    returns
+    of-view-requires-2
+    file-requires-2
+    word-requires-2
+    same-length-3
+    same-length-4
+    returns-2)

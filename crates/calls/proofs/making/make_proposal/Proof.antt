@@ -1,0 +1,41 @@
+use Rattle.calls.proofs.WrittenLaws.{proposal-acts}
+use borrow.Author.Needs.{needs}
+use Rattle.calls.proofs.making.make_proposal.Statement.{statement}
+use Rattle.calls.proofs.making.make_proposal.Tie as tie
+use Rattle.calls.proofs.making.make_proposal.Reads as reads
+use Rattle.calls.proofs.making.make_proposal.Lts as lts
+use Rattle.calls.proofs.making.file_own_proposal.Reads as file-own-proposal-reads
+use Rattle.message.proofs.writer.write_proposal.Reads as write-proposal-reads
+
+write-proposal-requires : tie.Need-write-proposal-requires
+write-proposal-requires c κs = search needs
+
+file-own-proposal-requires : tie.Need-file-own-proposal-requires
+file-own-proposal-requires c κs = search needs
+
+add-t27 : tie.Need-add-t27
+add-t27 c = search needs
+
+same-length : tie.Need-same-length
+same-length c = search needs
+
+same-length-2 : tie.Need-same-length-2
+same-length-2 c = search needs
+
+same-length-3 : tie.Need-same-length-3
+same-length-3 c = search needs
+
+returns : tie.Need-returns
+returns c = search proposal-acts
+
+pub make-proposal-spec : {M : Type 1} → statement M
+make-proposal-spec =
+    tie.close
+    (tie.spec
+    write-proposal-requires
+    file-own-proposal-requires
+    add-t27
+    same-length
+    same-length-2
+    same-length-3
+    returns)

@@ -1,0 +1,33 @@
+use Rattle.calls.proofs.ReadingCases.{tally-empty, tally-longest}
+use borrow.Author.Needs.{needs}
+use Rattle.calls.proofs.readings.supporters.Statement.{statement}
+use Rattle.calls.proofs.readings.supporters.Tie as tie
+
+enum-known-grade : tie.Need-enum-known-grade
+enum-known-grade c = search needs
+
+enum-told : tie.Need-enum-told
+enum-told c = search needs
+
+supporters-requires : tie.Need-supporters-requires
+supporters-requires c κs = search needs
+
+returns : tie.Need-returns
+returns c = (search tally-empty, search needs)
+
+supporters-requires-2 : tie.Need-supporters-requires-2
+supporters-requires-2 c κs = search needs
+
+returns-2 : tie.Need-returns-2
+returns-2 c = (search tally-longest, search needs)
+
+pub supporters-spec : {M : Type 1} → statement M
+supporters-spec =
+    tie.close
+    (tie.spec
+    enum-known-grade
+    enum-told
+    supporters-requires
+    returns
+    supporters-requires-2
+    returns-2)

@@ -1,0 +1,18 @@
+use borrow.Author.Needs.{needs}
+use Rattle.calls.proofs.record.fresh.Statement.{statement}
+use Rattle.calls.proofs.record.fresh.Tie as tie
+
+empty-requires : tie.Need-empty-requires
+empty-requires c κs = search needs
+
+empty-requires-2 : tie.Need-empty-requires-2
+empty-requires-2 c κs = search needs
+
+empty-requires-3 : tie.Need-empty-requires-3
+empty-requires-3 c κs = search needs
+
+returns : tie.Need-returns
+returns c = cc
+
+pub fresh-spec : {M : Type 1} → statement M
+fresh-spec = tie.close (tie.spec empty-requires empty-requires-2 empty-requires-3 returns)

@@ -1,0 +1,68 @@
+use Rattle.calls.proofs.SeeingLaws.{lock-first, lock-later}
+use Rattle.calls.proofs.RecordCases.{of-even, of-odd}
+use borrow.Author.Needs.{needs}
+use Rattle.calls.proofs.seeing.lock.Statement.{statement}
+use Rattle.calls.proofs.seeing.lock.Tie as tie
+use Rattle.calls.proofs.seeing.lock.Reads as reads
+use Rattle.calls.proofs.seeing.lock.Lts as lts
+use Rattle.agreement.proofs.grading.one.Reads as one-reads
+use Rattle.calls.proofs.record.is_even.Reads as is-even-reads
+use Rattle.calls.proofs.record.logs_place.Reads as logs-place-reads
+use Rattle.calls.proofs.record.of_view.Reads as of-view-reads
+
+returns : tie.Need-returns
+returns c = search lock-first
+
+sub-logs-place : tie.Need-sub-logs-place
+sub-logs-place c = search needs
+
+logs-place-requires : tie.Need-logs-place-requires
+logs-place-requires c κs = search needs
+
+sub-is-even : tie.Need-sub-is-even
+sub-is-even c = search needs
+
+is-even-requires : tie.Need-is-even-requires
+is-even-requires c κs = search needs
+
+sub-of-view : tie.Need-sub-of-view
+sub-of-view c = search needs
+
+of-view-requires : tie.Need-of-view-requires
+of-view-requires c κs = search needs
+
+one-requires : tie.Need-one-requires
+one-requires c κs = search needs
+
+returns-2 : tie.Need-returns-2
+returns-2 c = search (lock-later, of-even)
+
+sub-of-view-2 : tie.Need-sub-of-view-2
+sub-of-view-2 c = search needs
+
+of-view-requires-2 : tie.Need-of-view-requires-2
+of-view-requires-2 c κs = search needs
+
+one-requires-2 : tie.Need-one-requires-2
+one-requires-2 c κs = search needs
+
+returns-3 : tie.Need-returns-3
+returns-3 c = search (lock-later, of-odd)
+
+pub lock-spec : {M : Type 1} → statement M
+lock-spec =
+    tie.close
+    (tie.spec
+    returns
+    sub-logs-place
+    logs-place-requires
+    sub-is-even
+    is-even-requires
+    sub-of-view
+    of-view-requires
+    one-requires
+    returns-2
+    sub-of-view-2
+    of-view-requires-2
+    one-requires-2
+    returns-3)

@@ -1,0 +1,26 @@
+-- One name that opens every definition by which a history and the tests of a volume are worked out, for facts that are computed. Assumes nothing.
+use Rattle.message.specs.Choice.{some}
+use Rattle.message.specs.Numbers.{put, numberAt, numbersAt, bytesFor, bytesForEach}
+use Rattle.message.specs.Logs.{isPrefix, sameLog, inStep, namesOf, countsOf}
+use Rattle.message.specs.Message.{messageBytes, bytesOf, meaningIn, malformed, readOf}
+use Rattle.agreement.specs.Sets.{weigh}
+use Rattle.agreement.specs.Reading.{maySupport, supports, longest}
+use Rattle.agreement.specs.Kept.{wordOn}
+use Rattle.agreement.specs.Heard.{someDiffers, keptOf, logsFrom, gradeNow, gradeWith, proposalsFrom, voteAmong}
+use Rattle.agreement.specs.Proposals.{bestOf}
+use Rattle.bench.specs.Acts.{propose, vote, makes, settle}
+use Rattle.bench.specs.Terms.{weightOf}
+use Rattle.bench.specs.History.{refusal, wordFor, file, heardAt, candidateAt, lockAt, decisionAt, madeBy, decidedBy, accepted, acceptedAnswer, step, answer, afterFrom, after, answersFrom, answersTo, actedAt, awake, standIn, stand}
+use Rattle.demand.proofs.Decided.{decidedIn}
+use Rattle.demand.proofs.ListTests.{all, any, allBelow}
+use Rattle.demand.proofs.Checks.{sentRead, sentMade, sentBy, sentList, sameContent, madeIt, actMade, deliveredb, numberedb, majorityb}
+use Rattle.demand.proofs.TypedChecks.{typedb, volumeTypedb}
+
+unfoldable pub computed : Unit {0}
+unfolding
+    some put numberAt numbersAt bytesFor bytesForEach isPrefix sameLog inStep namesOf countsOf messageBytes bytesOf meaningIn malformed readOf
+    weightOf weigh maySupport supports longest wordOn someDiffers keptOf logsFrom gradeNow gradeWith proposalsFrom voteAmong bestOf
+    propose vote makes settle refusal wordFor file heardAt candidateAt lockAt decisionAt madeBy decidedBy accepted acceptedAnswer step answer
+    afterFrom after answersFrom answersTo actedAt awake decidedIn standIn stand
+    all any allBelow sentRead sentMade sentBy sentList sameContent madeIt actMade deliveredb numberedb majorityb typedb volumeTypedb
+computed = tt

@@ -1,0 +1,32 @@
+-- Laws of the definitions in specs/, and the theorems.
+-- Why no two decided logs conflict, apart from how a bench keeps what it heard:
+pub mod Hearing
+pub mod TwoReadings
+pub mod Safety
+-- One bench along its list of calls:
+pub mod Starts
+pub mod Beats
+pub mod HeardFrom
+pub mod ActPlaces
+pub mod SentOn
+pub mod Taking
+pub mod Snapshots
+-- A volume that meets the premises:
+pub mod Timetable
+pub mod HearingOf
+pub mod Votes
+pub mod FourBeats
+pub mod Decided
+-- Demand 3 of a machine, from each bench alone:
+pub mod Reduce
+-- and of the bench:
+pub mod TheDemand
+-- The statement held against examples:
+pub mod ListTests
+pub mod Checks
+pub mod TypedChecks
+pub mod Computed
+pub mod Witness
+pub mod Idle
+pub mod ShutOut
+pub mod Readable

@@ -1,0 +1,87 @@
+-- Demand 3 of the bench: its record and lists stay tied to its history, call by call, and so it is faithful. Assumes nothing.
+use Prim.Native.Nat.{ℕ}
+use native.Mathlib.Omega.{arith}
+use mathlib.Core.Bool.{true, false}
+use mathlib.Core.Option.{some, none, Option·none-ne-some, Option·some-injective}
+use mathlib.Core.Path.{_≡_, refl, sym, ap, subst, _∙_}
+use Rattle.message.proofs.TestLaws.{either}
+use Rattle.bench.specs.Terms.{Terms, Seat, seatOf}
+use Rattle.bench.specs.Layout.{Lent, outOfRange, shortLists}
+use Rattle.bench.specs.Calls.{Call, begin, receive, act, refused, done, State, Opening, Typed}
+use Rattle.bench.specs.History.{History, fresh, openRefusal}
+use Rattle.bench.specs.Record.{freshBench}
+use Rattle.bench.specs.ByRecord.{notOpened, openOf}
+use Rattle.bench.specs.declared.Bench.{Bench}
+use Rattle.bench.proofs.Ties.{Tie}
+use Rattle.bench.proofs.CallTies.{Agrees, begin-agrees, receive-agrees, open-tie}
+use Rattle.bench.proofs.Refusals.{open-7, open-8, open-done, begin-lent}
+use Rattle.bench.proofs.Acting.{act-agrees}
+use Rattle.demand.specs.Demand.{Way, call, OpensRightly, OpenedAs, Demand3}
+use Rattle.demand.specs.TheBench.{theBench}
+use Rattle.demand.proofs.Reduce.{Simulation, faithful, demand3}
+
+-- each call agrees with the history's, by value or on a lent record
+agrees : (S : Seat) (w : Way) (x : State) (p : History) (c : Call) → Tie S x p → Typed c → Agrees S x p c (call theBench w x c)
+agrees S w x p (begin b) t y = begin-agrees S x p t b
+agrees S w x p (receive bytes) t y = receive-agrees S x p t bytes (y .0)
+agrees S w x p (act block priority out) t y = act-agrees S x p t block priority out y
+
+-- ---- Open
+
+module _ (T : Terms) (own : ℕ) (l : Lent) where
+  open-causes : {A : Type 0} → (outOfRange (T .n) own ≡ true → A) → (outOfRange (T .n) own ≡ false → shortLists l ≡ true → A) → (outOfRange (T .n) own ≡ false → shortLists l ≡ false → A) → A
+  open-causes f g h = either (outOfRange (T .n) own) f (λ e. either (shortLists l) (g e) (h e))
+
+  refuses : (k : ℕ) → openRefusal (seatOf T own) l ≡ some k → openOf (T .n) own l .reply ≡ refused k
+  unfolding openRefusal
+  refuses k r =
+      open-causes
+      (λ e. rw (open-7 (T .n) own l e) (ap refused (Option·some-injective _ _ (rw e at r))))
+      (λ e f. rw (open-8 (T .n) own l e f) (ap refused (Option·some-injective _ _ (rw (e, f) at r))))
+      (λ e f. absurd (Option·none-ne-some _ (rw (e, f) at r)))
+
+  opens : openRefusal (seatOf T own) l ≡ none → (openOf (T .n) own l .reply ≡ done) × (openOf (T .n) own l .bench .decided ≡ 0) × (openOf (T .n) own l .bench .parted ≡ false)
+  unfolding openRefusal
+  opens r =
+      open-causes
+      (λ e. absurd (Option·none-ne-some _ (sym (rw e at r))))
+      (λ e f. absurd (Option·none-ne-some _ (sym (rw (e, f) at r))))
+      (λ e f. rw (open-done (T .n) own l e f) (refl, refl, refl))
+
+  -- a bench that Open gave is fresh, and 7 and 8 do not hold
+  given-fresh : (b : Bench) → openOf (T .n) own l ≡ record { reply = done; bench = b }
+      → (outOfRange (T .n) own ≡ false) × (shortLists l ≡ false) × (freshBench (T .n) own ≡ b)
+  given-fresh b g =
+      let no : (k : ℕ) → openOf (T .n) own l ≡ notOpened k → ⊥ = λ k e.
+      let d : refused k ≡ done = ap (λ (o : Opening). o .reply) (sym e ∙ g) in let z : _≡_ {A = ℕ} 0 1 = cc in absurd (omega arith) in
+      open-causes
+      (λ e. absurd (no 7 (open-7 (T .n) own l e)))
+      (λ e f. absurd (no 8 (open-8 (T .n) own l e f)))
+      (λ e f. (e, f, ap (λ (o : Opening). o .bench) (sym (open-done (T .n) own l e f) ∙ g)))
+
+opens-rightly : OpensRightly theBench
+opens-rightly = record { refuses = λ T own l k t e. refuses T own l k e; opens = λ T own l t e. opens T own l e }
+
+opens-tied : (T : Terms) (own : ℕ) (x : State) → OpenedAs theBench T own x → Tie (seatOf T own) x (fresh (seatOf T own))
+opens-tied T own x o =
+    let g = given-fresh T own (x .lent) (x .bench) (o .given) in
+    subst (λ (b : Bench). Tie (seatOf T own) (record { bench = b; lent = x .lent }) (fresh (seatOf T own))) (g .2)
+    (open-tie T own (x .lent) (g .0) (g .1) (o .typed .names .0) (o .typed .counts .0))
+
+-- ---- the theorem
+
+pub bench-simulates : Simulation theBench
+bench-simulates = record {
+  rightly = opens-rightly;
+  Rel = Tie;
+  opens = opens-tied;
+  same-answer = λ S w x p c t y. agrees S w x p c t y .answered;
+  keeps = λ S w x p c t y. agrees S w x p c t y .tied;
+  same-standing = λ S x p t. t .stand-is;
+  refusals = λ S w x p c k t y e. agrees S w x p c t y .left k e;
+  begins = λ S w x p b t y. begin-lent x b;
+}
+
+-- Demand 3.
+pub bench-demand3 : Demand3 theBench
+bench-demand3 = demand3 theBench (faithful theBench bench-simulates)
