@@ -10,7 +10,7 @@ use borrow.Author.Tests.{ltb-true, leb-true, eqb-false, ne-eqb, not-true}
 use lib.Dec.{eqb, ltb}
 use lib.ListN.{length, length-append}
 use Rattle.message.specs.Limits.{mostBlocks, lastView}
-use Rattle.message.specs.Choice.{some as someOf}
+use Rattle.message.specs.Choice.{anyOf}
 use Rattle.message.specs.Numbers.{AllBelow}
 use Rattle.message.specs.Logs.{Block, Log, Prefix, namesOf, countsOf}
 use Rattle.message.specs.Message.{Content, Meaning, logMessage, proposalMessage, anyZero, Reading, refused, means, readOf, Writable, WritableMeaning}
@@ -48,13 +48,13 @@ pub log-writable : {n sender view : ℕ} {L : Log} → sender < n → view ≤ l
 log-writable s v g = record { sender = s; view = v; short = g .short; named = g .named; names = g .names; counts = g .counts }
 
 pub empty-good : GoodLog []
-unfolding someOf namesOf countsOf
+unfolding anyOf namesOf countsOf
 empty-good = record { short = omega arith; named = refl; names = λ i. omega arith; counts = λ i. omega arith }
 
-some-append : (p : ℕ → Bool) (xs ys : List ℕ) → someOf p (xs ++ ys) ≡ (someOf p xs || someOf p ys)
-unfolding someOf
-some-append p [] ys = refl
-some-append p (x ∷ xs) ys = ap (λ (t : Bool). p x || t) (some-append p xs ys) ∙ sym (or-assoc (p x) (someOf p xs) (someOf p ys))
+any-append : (p : ℕ → Bool) (xs ys : List ℕ) → anyOf p (xs ++ ys) ≡ (anyOf p xs || anyOf p ys)
+unfolding anyOf
+any-append p [] ys = refl
+any-append p (x ∷ xs) ys = ap (λ (t : Bool). p x || t) (any-append p xs ys) ∙ sym (or-assoc (p x) (anyOf p xs) (anyOf p ys))
 
 below-front : (B : ℕ) (xs ys : List ℕ) → 0 < B → AllBelow B (xs ++ ys) → AllBelow B xs
 below-front B [] ys z h i = z
@@ -65,7 +65,7 @@ front-good : (P t : Log) → GoodLog (P ++ t) → GoodLog P
 front-good P t g =
     let l = length-append P t in
     let s = g .short in
-    let z = sym (some-append (λ name. eqb name 0) (namesOf P) (namesOf t)) ∙ ap anyZero (sym (names-append P t)) ∙ g .named in
+    let z = sym (any-append (λ name. eqb name 0) (namesOf P) (namesOf t)) ∙ ap anyZero (sym (names-append P t)) ∙ g .named in
     record {
       short = omega arith;
       named = or-false (anyZero (namesOf P)) (anyZero (namesOf t)) z .0;
@@ -80,13 +80,13 @@ prefix-good {P} {Q} h g = let t = prefix-iff P Q .0 h in front-good P (t .0) (su
 -- and one block more, where there is room
 pub append-good : (L : Log) (b : Block) → length L < mostBlocks → b .name ≢ 0 → b .name < 2 ^ 64 → b .count < 2 ^ 16
     → GoodLog L → GoodLog (L ++ (b ∷ []))
-unfolding someOf namesOf countsOf
+unfolding anyOf namesOf countsOf
 append-good L b s z S c g =
     let l = length-append L (b ∷ []) in
     record {
       short = omega arith;
       named =
-          ap anyZero (names-append L (b ∷ [])) ∙ some-append (λ name. eqb name 0) (namesOf L) (b .name ∷ [])
+          ap anyZero (names-append L (b ∷ [])) ∙ any-append (λ name. eqb name 0) (namesOf L) (b .name ∷ [])
           ∙ rw (g .named, ne-eqb (b .name) 0 z) refl;
       names =
           subst (AllBelow (2 ^ 64)) (sym (names-append L (b ∷ [])))

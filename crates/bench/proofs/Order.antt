@@ -6,7 +6,7 @@ use mathlib.Core.List.{List, [], _∷_, _++_, map}
 use mathlib.Core.Option.{none}
 use mathlib.Core.Path.{_≡_, refl}
 use lib.ListN.{replicate}
-use Rattle.message.specs.Choice.{some}
+use Rattle.message.specs.Choice.{anyOf}
 use Rattle.message.specs.Numbers.{numberAt, numbersAt}
 use Rattle.message.specs.Logs.{Block, inStep}
 use Rattle.message.specs.Message.{malformed, readOf, meaningIn}
@@ -193,6 +193,6 @@ rows =
 
 pub rows-hold : map worked rows ≡ map stated rows
 unfolding
-    openOf beginOf receiveOf actedOf actOf makes changed settled snappedTwo agreementOf withAgreement readOf malformed meaningIn some numberAt numbersAt inStep
+    openOf beginOf receiveOf actedOf actOf makes changed settled snappedTwo agreementOf withAgreement readOf malformed meaningIn anyOf numberAt numbersAt inStep
     beyond beyondAgreement beyondProposals anyPlace weigh
 rows-hold = refl

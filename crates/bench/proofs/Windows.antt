@@ -2,7 +2,7 @@
 use Prim.Native.Nat.{ℕ, _+_}
 use mathlib.Core.List.{List, [], _∷_, map}
 use mathlib.Core.Path.{_≡_, refl}
-use Rattle.message.specs.Choice.{some}
+use Rattle.message.specs.Choice.{anyOf}
 use Rattle.message.specs.Numbers.{numberAt, numbersAt, bytesFor, bytesForEach}
 use Rattle.message.specs.Logs.{Log, inStep, namesOf, countsOf}
 use Rattle.message.specs.Message.{Meaning, logMessage, proposalMessage, messageBytes, bytesOf, malformed, readOf, meaningIn}
@@ -89,6 +89,6 @@ rows =
 pub rows-hold : map (λ (r : Row). receiveOf (held (gathering (r .beat + 1)) leastLent leastLent) (bytesOf (r .message)) .answer .reply) rows
     ≡ map (λ (r : Row). r .reply) rows
 unfolding
-    receiveOf fileMessage fileOf fileProposalOf agreementOf proposalsOf readOf malformed meaningIn some numberAt numbersAt inStep bytesOf messageBytes
+    receiveOf fileMessage fileOf fileProposalOf agreementOf proposalsOf readOf malformed meaningIn anyOf numberAt numbersAt inStep bytesOf messageBytes
     bytesFor bytesForEach namesOf countsOf beyond beyondAgreement beyondProposals anyPlace weigh
 rows-hold = refl

@@ -9,7 +9,7 @@ use lib.Dec.{leb, eqb}
 use lib.ListN.{getD, set}
 use borrow.Author.Tests.{le-leb, lt-leb, leb-true, leb-false}
 use lib.Seq.{getD-set-other}
-use Rattle.message.specs.Choice.{some}
+use Rattle.message.specs.Choice.{anyOf}
 use Rattle.message.specs.Message.{anyZero}
 use Rattle.message.specs.Numbers.{part, put, numberAt, numbersAt, bytesFor, bytesForEach}
 use Rattle.message.proofs.PartLaws.{put-append}
@@ -73,7 +73,7 @@ numbers-step w s p left h = let e : left ≡ suc (left - 1) = omega arith in ap 
 
 zero-step : (w : ℕ) (s : List ℕ) (p left : ℕ) → 0 < left
     → anyZero (numbersAt w s p left) ≡ eqb (numberAt w s p) 0 || anyZero (numbersAt w s (p + w) (left - 1))
-unfolding some
+unfolding anyOf
 zero-step w s p left h = ap anyZero (numbers-step w s p left h)
 
 or-next : (a b c : Bool) → (a || (b || c)) ≡ ((a || b) || c)
@@ -93,7 +93,7 @@ module _ (w : ℕ) (z b : Bool) (s : List ℕ) (p left : ℕ) (e : z ≡ (b || a
       ∙ rw q
 
   pub zero-end : left ≤ 0 → b ≡ z
-  unfolding numbersAt some
+  unfolding numbersAt anyOf
   zero-end h =
       let l : left ≡ 0 = omega arith in
       or-last b ∙ sym (e ∙ ap (λ (k : ℕ). b || anyZero (numbersAt w s p k)) l)

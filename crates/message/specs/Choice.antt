@@ -8,7 +8,7 @@ abbrev pub pick : {A : Type 0} → Bool → A → A → A
 pick true x y = x
 pick false x y = y
 
--- some number of the list passes the test
-unfoldable pub some : (ℕ → Bool) → List ℕ → Bool
-some p [] = false
-some p (x ∷ xs) = p x || some p xs
+-- one of the numbers of the list, or more, passes the test
+unfoldable pub anyOf : (ℕ → Bool) → List ℕ → Bool
+anyOf p [] = false
+anyOf p (x ∷ xs) = p x || anyOf p xs

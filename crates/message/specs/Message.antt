@@ -7,7 +7,7 @@ use mathlib.Core.Path.{_≡_}
 use lib.Dec.{eqb, leb, ltb}
 use lib.ListN.{length, getD}
 use Rattle.message.specs.Limits.{mostBlocks, lastView, headLength, nameWidth, countWidth, blockWidth}
-use Rattle.message.specs.Choice.{pick, some}
+use Rattle.message.specs.Choice.{pick, anyOf}
 use Rattle.message.specs.Numbers.{AllBelow, numberAt, numbersAt, bytesFor, bytesForEach}
 use Rattle.message.specs.Logs.{Log, inStep, namesOf, countsOf}
 use Rattle.message.specs.declared.Head.{Head}
@@ -124,7 +124,7 @@ pastLastView s = ltb lastView (viewIn s)
 
 -- 6: a name is zero
 abbrev pub anyZero : List ℕ → Bool
-anyZero names = some (λ name. eqb name 0) names
+anyZero names = anyOf (λ name. eqb name 0) names
 
 abbrev pub zeroNamed : List ℕ → Bool
 zeroNamed s = anyZero (namesIn s (countIn s))
