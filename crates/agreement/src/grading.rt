@@ -15,12 +15,12 @@ ghost use Rattle.agreement.specs.Grades.{Gives, gradeAmong, gradeZero, g
 ghost use Rattle.agreement.specs.Steps.{Readable, SetOf, Next, nextBlock, narrowed, runLength, alike, narrowedBy, Far, Voted, Climbing, Climbed};
 use super::Agreement;
 use super::Grade;
-use super::MOST_BLOCKS;
 use super::MOST_SENDERS;
 use super::room::lacks_room;
 use super::tally::count_in;
 use super::tally::count_over;
 use super::tally::senders;
+use message::MOST_BLOCKS;
 
 // How many blocks are looked at together where the majority may go on.
 const RUN: usize = 4;

@@ -8,13 +8,12 @@ pub mod tally;
 
 ghost use mathlib.Core.Path.{_≡_};
 ghost use Rattle.agreement.specs.Record.{emptyAgreement, withOne, withTwo};
+use message::MOST_BLOCKS;
 
-// The numbers of specs/Limits.antt, and the blocks of a log at the most.
-const MOST_BLOCKS: usize = 64;
+// The numbers of specs/Limits.antt. The layers above use these; they have no copies.
+pub const MOST_SENDERS: usize = 32;
 
-const MOST_SENDERS: usize = 32;
-
-const SPAN: usize = MOST_SENDERS * MOST_BLOCKS;
+pub const SPAN: usize = MOST_SENDERS * MOST_BLOCKS;
 
 // The agreement of a view. A bench is a validator; its number is its place in each array.
 pub struct Agreement {

@@ -16,13 +16,13 @@ ghost use Rattle.agreement.specs.Proposals.{emptyProposals, withProposal
 use super::Answer;
 use super::Choice;
 use super::FiledProposal;
-use super::MOST_BLOCKS;
 use super::MOST_SENDERS;
 use super::Proposals;
 use super::room::is_filed;
 use super::room::lacks_room;
 use super::room::store_log;
 use super::room::unfit;
+use message::MOST_BLOCKS;
 
 pub fn empty(view: u32) -> Proposals
     ensures { λ r. ⌜ r ≡ emptyProposals view ⌝ }

@@ -8,9 +8,9 @@ ghost use Rattle.agreement.specs.Limits.{placeOf};
 ghost use Rattle.agreement.specs.Record.{filedLog, lacksRoom};
 ghost use Rattle.agreement.specs.Filing.{unfit};
 ghost use Rattle.agreement.specs.Filing.{Fit};
-use super::MOST_BLOCKS;
 use super::MOST_SENDERS;
 use super::SPAN;
+use message::MOST_BLOCKS;
 
 // The lists have no room for a log of each sender.
 pub(crate) fn lacks_room(names: &[u64], counts: &[u16], base: u32) -> bool

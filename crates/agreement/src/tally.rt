@@ -9,9 +9,9 @@ ghost use Rattle.agreement.specs.Record.{isSender};
 ghost use Rattle.agreement.specs.Tally.{supportersAt};
 ghost use Rattle.agreement.specs.Steps.{backs};
 use super::Agreement;
-use super::MOST_BLOCKS;
 use super::MOST_SENDERS;
 use super::room::lacks_room;
+use message::MOST_BLOCKS;
 
 // A test as a number, to be added up.
 fn added(test: bool) -> usize

@@ -19,18 +19,18 @@ pub enum Message {
     Refused(u8),
 }
 
-// The numbers of specs/Limits.antt and the two kinds of specs/Message.antt.
-const MOST_BLOCKS: usize = 64;
+// The numbers of specs/Limits.antt and the two kinds of specs/Message.antt. The layers above use these; they have no copies.
+pub const MOST_BLOCKS: usize = 64;
 
-const LAST_VIEW: u32 = 1000000;
+pub const LAST_VIEW: u32 = 1000000;
 
-const HEAD_LENGTH: usize = 16;
+pub const HEAD_LENGTH: usize = 16;
 
 const NAME_WIDTH: usize = 8;
 
 const COUNT_WIDTH: usize = 2;
 
-const BLOCK_WIDTH: usize = 10;
+pub const BLOCK_WIDTH: usize = 10;
 
 const LOG_KIND: u8 = 1;
 
