@@ -2,7 +2,7 @@
 // only read and written.
 
 fn print_text(roll: &[u8], text: &mut [u8]) {
-    let end = run::cervakho_roll_text(roll, text);
+    let end = run::roll_text(roll, text);
     io::write_all(1, &text[..end]);
 }
 

@@ -1,7 +1,6 @@
-// Many benches: demand 3, its statement in specs/ and its proof in proofs/; and a roll, a list of calls at one bench as bytes
-// (specs/Roll.antt). Exported are three functions of a roll: cervakho_roll_text, its text (specs/RollText.antt); and for a tool that
-// shows schedules cervakho_roll_page, what the bench holds after some of the calls (specs/Page.antt), and cervakho_roll_made, the
-// message that an act made (specs/MadeBytes.antt).
+// A roll: a list of calls at one bench as bytes (specs/Roll.antt). Three functions of it: roll_text, its text (specs/RollText.antt);
+// and for a tool that shows schedules roll_page, what the bench holds after some of the calls (specs/Page.antt), and roll_made, the
+// message that an act made (specs/MadeBytes.antt). The crate cervakho exports them.
 mod events;
 mod form;
 mod held;
@@ -51,10 +50,8 @@ pub struct Offer {
 }
 
 // The text of a roll, at the front of the lent buffer, and how many bytes it has. A buffer shorter than the longest roll is left as
-// it was, and the answer is 0. In C: size_t cervakho_roll_text(const uint8_t *roll, size_t roll_length, uint8_t *text, size_t
-// text_length).
-#[no_mangle]
-pub extern "C" fn cervakho_roll_text(roll: &[u8], text: &mut [u8]) -> usize
+// it was, and the answer is 0.
+pub fn roll_text(roll: &[u8], text: &mut [u8]) -> usize
     ensures { λ r. ⌜ WritesText (now (roll .entry)) (now (text .entry)) r (now (text .exit)) ⌝ }
 {
     if text.len() < MOST_ROLL {
@@ -70,11 +67,8 @@ pub extern "C" fn cervakho_roll_text(roll: &[u8], text: &mut [u8]) -> usize
 
 // The page of a roll, at the front of the lent buffer, and its length: what the bench holds after the first calls, made on the lent
 // lists, which are left as it holds them. The lists may hold anything at first. The answer is 0, and lists and buffer are left as they
-// were, where the buffer is too short, the roll has another form or fewer calls, or Open refuses. In C: size_t
-// cervakho_roll_page(const uint8_t *roll, size_t roll_length, size_t calls, uint64_t *names, size_t names_length, uint16_t *counts,
-// size_t counts_length, uint8_t *page, size_t page_length).
-#[no_mangle]
-pub extern "C" fn cervakho_roll_page(
+// were, where the buffer is too short, the roll has another form or fewer calls, or Open refuses.
+pub fn roll_page(
     roll: &[u8],
     calls: usize,
     names: &mut [u64],
@@ -98,10 +92,8 @@ pub extern "C" fn cervakho_roll_page(
 // The message that event number `event` of a roll made, at the front of the lent buffer, and its length. The buffer is the Act's
 // outgoing buffer; where nothing was made it is left as it was, and the answer is 0. The lists stand before the tests: behind them,
 // rattle-kit-5b-plain compiled the function wrong for the static library, as its stack check overwrote a register in use
-// (docs/DECISIONS.md, "Sketches"). In C: size_t cervakho_roll_made(const uint8_t *roll, size_t roll_length, size_t event, uint8_t
-// *out, size_t out_length).
-#[no_mangle]
-pub extern "C" fn cervakho_roll_made(roll: &[u8], event: usize, out: &mut [u8]) -> usize
+// (docs/DECISIONS.md, "Sketches").
+pub fn roll_made(roll: &[u8], event: usize, out: &mut [u8]) -> usize
     ensures { λ r. ⌜ GivesMade (madeOf (now (roll .entry)) event (now (out .entry))) (now (out .entry)) r (now (out .exit)) ⌝ }
 {
     let mut names = [0; 6208];

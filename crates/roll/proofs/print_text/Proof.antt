@@ -10,8 +10,8 @@ use Rattle.roll.proofs.print_text.Tie as tie
 counts : (j : ℕ) (l : List ℕ) → j ≤ length l → j ≡ length (take j l)
 counts j l h = sym (length-take-le j l h)
 
-cervakho-roll-text-requires : tie.Need-cervakho-roll-text-requires
-cervakho-roll-text-requires c κs = search needs
+roll-text-requires : tie.Need-roll-text-requires
+roll-text-requires c κs = search needs
 
 slice-reshare-prefix-write-all : tie.Need-slice-reshare-prefix-write-all
 slice-reshare-prefix-write-all c = search needs
@@ -32,7 +32,7 @@ pub print-text-spec : {M : Type 1} → statement M
 print-text-spec =
     tie.close
     (tie.spec
-    cervakho-roll-text-requires
+    roll-text-requires
     slice-reshare-prefix-write-all
     slice-aggregate-write-all
     write-all-requires

@@ -1,8 +1,8 @@
 use Rattle.run.proofs.MadeLaws.{is-event, made-no-roll, made-no-act, made-whole}
 use Rattle.run.proofs.RollForm.{shaped}
 use borrow.Author.Needs.{needs}
-use Rattle.run.proofs.cervakho_roll_made.Statement.{statement}
-use Rattle.run.proofs.cervakho_roll_made.Tie as tie
+use Rattle.run.proofs.roll_made.Statement.{statement}
+use Rattle.run.proofs.roll_made.Tie as tie
 
 is-misshapen-requires : tie.Need-is-misshapen-requires
 is-misshapen-requires c κs = search needs
@@ -31,8 +31,8 @@ same-length c = search needs
 returns-3 : tie.Need-returns-3
 returns-3 c = search made-whole
 
-pub cervakho-roll-made-spec : {M : Type 1} → statement M
-cervakho-roll-made-spec =
+pub roll-made-spec : {M : Type 1} → statement M
+roll-made-spec =
     tie.close
     (tie.spec
     is-misshapen-requires

@@ -1,8 +1,8 @@
 use Rattle.run.proofs.EventLaws.{text-scant, text-none, text-whole}
 use Rattle.run.proofs.RollForm.{shaped}
 use borrow.Author.Needs.{needs}
-use Rattle.run.proofs.cervakho_roll_text.Statement.{statement}
-use Rattle.run.proofs.cervakho_roll_text.Tie as tie
+use Rattle.run.proofs.roll_text.Statement.{statement}
+use Rattle.run.proofs.roll_text.Tie as tie
 
 returns : tie.Need-returns
 returns c = search text-scant
@@ -37,8 +37,8 @@ same-length-2 c = search needs
 returns-3 : tie.Need-returns-3
 returns-3 c = search text-whole
 
-pub cervakho-roll-text-spec : {M : Type 1} → statement M
-cervakho-roll-text-spec =
+pub roll-text-spec : {M : Type 1} → statement M
+roll-text-spec =
     tie.close
     (tie.spec
     returns

@@ -1,8 +1,8 @@
 use Rattle.run.proofs.PageLaws.{page-scant, page-no-roll, page-few, page-whole}
 use Rattle.run.proofs.RollForm.{shaped}
 use borrow.Author.Needs.{needs}
-use Rattle.run.proofs.cervakho_roll_page.Statement.{statement}
-use Rattle.run.proofs.cervakho_roll_page.Tie as tie
+use Rattle.run.proofs.roll_page.Statement.{statement}
+use Rattle.run.proofs.roll_page.Tie as tie
 
 returns : tie.Need-returns
 returns c = search page-scant
@@ -34,8 +34,8 @@ same-length-3 c = search needs
 returns-4 : tie.Need-returns-4
 returns-4 c = search page-whole
 
-pub cervakho-roll-page-spec : {M : Type 1} → statement M
-cervakho-roll-page-spec =
+pub roll-page-spec : {M : Type 1} → statement M
+roll-page-spec =
     tie.close
     (tie.spec
     returns
