@@ -1,8 +1,28 @@
-// One bench: its record, and the answers of its calls. What the calls are to give is in specs/, what is proved of that in proofs/; the
-// code is crate calls.
+// One bench: its record, its layout, and the answers of its calls. What the calls are to give is in specs/, what is proved of that in
+// proofs/; the code is crate calls.
 use agreement::Agreement;
 use agreement::Grade;
 use agreement::Proposals;
+use agreement::SPAN;
+use message::BLOCK_WIDTH;
+use message::HEAD_LENGTH;
+use message::LAST_VIEW;
+use message::MOST_BLOCKS;
+
+// The numbers of specs/Layout.antt: where the logs of an odd view, the proposed logs and the decided log start in the lent lists, how
+// long these must be, and how many bytes the longest message has.
+pub const ODD_PLACE: u32 = SPAN as u32;
+
+pub const PROPOSALS_PLACE: u32 = 2 * ODD_PLACE;
+
+pub const DECIDED_PLACE: usize = 3 * SPAN;
+
+pub const LEAST_LENT: usize = DECIDED_PLACE + MOST_BLOCKS;
+
+pub const MOST_BYTES: usize = HEAD_LENGTH + BLOCK_WIDTH * MOST_BLOCKS;
+
+// Of specs/Calendar.antt.
+pub const LAST_BEAT: u32 = 4 * LAST_VIEW + 6;
 
 // A bench is a validator. Its record:
 pub struct Bench {

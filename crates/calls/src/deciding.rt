@@ -5,14 +5,14 @@ ghost use Rattle.bench.specs.Calendar.{deciding};
 ghost use Rattle.bench.specs.ByRecord.{decisionOf, settled, snappedOne, snappedTwo, changed};
 ghost use Rattle.bench.specs.Answers.{stateOf};
 ghost use Rattle.bench.specs.Steps.{Usable, Before, Leaves, Snaps};
-use super::DECIDED_PLACE;
-use super::LAST_VIEW;
 use super::record::is_even;
 use super::record::of_view;
 use super::seeing::decision;
 use super::seeing::place_before;
 use agreement::Grade;
 use bench::Bench;
+use bench::DECIDED_PLACE;
+use message::LAST_VIEW;
 use message::store::copy;
 use message::store::is_prefix;
 

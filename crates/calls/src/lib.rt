@@ -21,6 +21,8 @@ use beginning::begun;
 use bench::Acted;
 use bench::Bench;
 use bench::Counted;
+use bench::LAST_BEAT;
+use bench::MOST_BYTES;
 use bench::Made;
 use bench::Received;
 use bench::Start;
@@ -35,25 +37,6 @@ use record::beat_of;
 use record::fresh;
 use record::is_idle;
 use record::is_not_above_last;
-
-// The numbers of specs/Layout.antt and specs/Calendar.antt, and of a record: a place for each of 32 senders, 64 blocks a log.
-const MOST_SENDERS: usize = 32;
-
-const MOST_BLOCKS: usize = 64;
-
-const SPAN: u32 = 32 * 64;
-
-const PROPOSALS_PLACE: u32 = 2 * SPAN;
-
-const DECIDED_PLACE: usize = 3 * MOST_SENDERS * MOST_BLOCKS;
-
-const LEAST_LENT: usize = DECIDED_PLACE + MOST_BLOCKS;
-
-const MOST_BYTES: usize = 16 + 10 * MOST_BLOCKS;
-
-const LAST_VIEW: u32 = 1000000;
-
-const LAST_BEAT: u32 = 4 * LAST_VIEW + 6;
 
 // Open: a fresh bench. Refused: 7, 8; the record beside a refusal is of no bench.
 pub fn open(n: u8, own: u8, names: &[u64], counts: &[u16]) -> Started

@@ -5,14 +5,14 @@ ghost use Rattle.bench.specs.Layout.{outOfRange, shortLists};
 ghost use Rattle.bench.specs.Record.{anyPlace, badSender, badProposer, beyondAgreement, beyondProposals, beyond};
 ghost use Rattle.bench.specs.Answers.{lentAs};
 ghost use Rattle.bench.specs.Steps.{badAt, badProposalAt};
-use super::LAST_BEAT;
-use super::LAST_VIEW;
-use super::LEAST_LENT;
-use super::MOST_BLOCKS;
-use super::MOST_SENDERS;
 use agreement::Agreement;
+use agreement::MOST_SENDERS;
 use agreement::Proposals;
 use bench::Bench;
+use bench::LAST_BEAT;
+use bench::LEAST_LENT;
+use message::LAST_VIEW;
+use message::MOST_BLOCKS;
 
 // n or the own number is out of range.
 pub(crate) fn is_out_of_range(n: u8, own: u8) -> bool

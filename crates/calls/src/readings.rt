@@ -15,6 +15,7 @@ use super::seeing::decision;
 use super::seeing::lock;
 use agreement::Agreement;
 use agreement::Grade;
+use agreement::MOST_SENDERS;
 use bench::Bench;
 use bench::Counted;
 
@@ -58,7 +59,7 @@ fn logs_before(v: u32) -> u32
 }
 
 // The senders that may support, in the agreement read.
-fn among_of(g: Agreement, place: u32) -> [bool; 32]
+fn among_of(g: Agreement, place: u32) -> [bool; MOST_SENDERS]
     ensures { λ r. ⌜ r ≡ amongBy g (actAt place) ⌝ }
 {
     if place == 1 {
@@ -76,7 +77,7 @@ fn supporters(
     names: &[u64],
     counts: &[u16],
     base: u32,
-    among: [bool; 32],
+    among: [bool; MOST_SENDERS],
     grade: Grade,
 ) -> usize
     requires { ⌜ Placed grade ⌝ }

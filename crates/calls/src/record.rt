@@ -2,10 +2,10 @@
 ghost use mathlib.Core.Path.{_≡_};
 ghost use Rattle.bench.specs.Layout.{isEven, logsPlace};
 ghost use Rattle.bench.specs.Record.{freshBench, ofView, agreementOf, proposalsOf, beatOf, notAboveLast, idle, withAgreement};
-use super::SPAN;
 use agreement::Agreement;
 use agreement::Proposals;
 use bench::Bench;
+use bench::ODD_PLACE;
 
 // Nothing filed, no beat begun, nothing decided.
 pub(crate) fn fresh(n: u8, own: u8) -> Bench
@@ -62,7 +62,7 @@ pub(crate) fn logs_place(v: u32) -> u32
     if is_even(v) {
         return 0;
     }
-    SPAN
+    ODD_PLACE
 }
 
 // The slot's agreement where it is of view v; else of view v nothing is filed.

@@ -8,8 +8,6 @@ ghost use Rattle.bench.specs.Layout.{logsPlace};
 ghost use Rattle.bench.specs.ByRecord.{candidateOf, lockOf, decisionOf};
 ghost use Rattle.bench.specs.Answers.{stateOf};
 ghost use Rattle.bench.specs.Steps.{Usable, Finds, ballotOf};
-use super::MOST_BLOCKS;
-use super::PROPOSALS_PLACE;
 use super::record::is_even;
 use super::record::logs_place;
 use super::record::of_view;
@@ -18,6 +16,8 @@ use agreement::Choice;
 use agreement::Grade;
 use bench::Bench;
 use bench::Found;
+use bench::PROPOSALS_PLACE;
+use message::MOST_BLOCKS;
 
 // The place of sender i's log in the agreement of the view before v. For v = 0 there is none, and of the empty log nothing is read.
 pub(crate) fn place_before(v: u32, i: u8) -> usize

@@ -20,6 +20,7 @@ use super::lines::put_first_line;
 use super::lines::put_taken;
 use super::texts::put_word;
 use bench::Bench;
+use bench::MOST_BYTES;
 use bench::Start;
 use message::number::u16_in;
 use message::number::u32_in;
@@ -74,7 +75,7 @@ fn print_events(
             p = put_taken(text, p, answer);
         } else {
             let offer = offer_in(roll, from);
-            let mut out = [0; 656];
+            let mut out = [0; MOST_BYTES];
             let acted = calls::act(
                 b,
                 names,

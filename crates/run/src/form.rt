@@ -11,6 +11,7 @@ use super::MOST_EVENTS;
 use super::MOST_ROLL;
 use super::RECEIVE_KIND;
 use super::SIZES_LENGTH;
+use bench::MOST_BYTES;
 use message::number::u16_in;
 
 pub(crate) fn events_of(roll: &[u8]) -> usize
@@ -31,7 +32,7 @@ fn is_right_body(kind: u8, k: usize) -> bool
     ensures { λ r. ⌜ r ≡ rightBody kind k ⌝ }
 {
     ((kind == BEGIN_KIND) & (k == 4))
-        | (((kind == RECEIVE_KIND) & (k <= 656)) | ((kind == ACT_KIND) & (k == 18)))
+        | (((kind == RECEIVE_KIND) & (k <= MOST_BYTES)) | ((kind == ACT_KIND) & (k == 18)))
 }
 
 fn is_wrong_mark(roll: &[u8], i: usize) -> bool

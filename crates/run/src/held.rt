@@ -14,6 +14,7 @@ use super::events::offer_in;
 use super::form::events_of;
 use super::form::length_at;
 use bench::Bench;
+use bench::MOST_BYTES;
 use message::number::u32_in;
 
 // The first calls, one after the other: print_events without the lines.
@@ -44,7 +45,7 @@ pub(crate) fn run_events(
             b = received.bench;
         } else {
             let offer = offer_in(roll, from);
-            let mut out = [0; 656];
+            let mut out = [0; MOST_BYTES];
             let acted = calls::act(
                 b,
                 names,

@@ -15,6 +15,8 @@ ghost use Rattle.run.specs.RollText.{WritesText};
 ghost use Rattle.run.specs.Held.{heldAt};
 ghost use Rattle.run.specs.Page.{noPage, GivesPage};
 ghost use Rattle.run.specs.MadeBytes.{madeOf, GivesMade};
+use agreement::MOST_SENDERS;
+use bench::LEAST_LENT;
 use events::print_roll;
 use form::events_of;
 use form::is_misshapen;
@@ -23,16 +25,14 @@ use made::make_event;
 use page::page_roll;
 use texts::put_word;
 
-// The numbers of specs/Roll.antt and of the bench's layout.
-const MOST_ROLL: usize = 65536;
+// The numbers of specs/Roll.antt and specs/Page.antt.
+pub const MOST_ROLL: usize = 65536;
 
 const MOST_EVENTS: usize = 1024;
 
 const SIZES_LENGTH: usize = 4;
 
 const MARK_LENGTH: usize = 4;
-
-const MOST_SENDERS: usize = 32;
 
 const PAGE_LENGTH: usize = 2 * (6 + 5 * MOST_SENDERS) + 5;
 
@@ -60,8 +60,8 @@ pub fn roll_text(roll: &[u8], text: &mut [u8]) -> usize
     if is_misshapen(roll) {
         return put_word(text, 0, b"roll ?\n");
     }
-    let mut names = [0; 6208];
-    let mut counts = [0; 6208];
+    let mut names = [0; LEAST_LENT];
+    let mut counts = [0; LEAST_LENT];
     print_roll(roll, &mut names, &mut counts, text)
 }
 
@@ -96,8 +96,8 @@ pub fn roll_page(
 pub fn roll_made(roll: &[u8], event: usize, out: &mut [u8]) -> usize
     ensures { λ r. ⌜ GivesMade (madeOf (now (roll .entry)) event (now (out .entry))) (now (out .entry)) r (now (out .exit)) ⌝ }
 {
-    let mut names = [0; 6208];
-    let mut counts = [0; 6208];
+    let mut names = [0; LEAST_LENT];
+    let mut counts = [0; LEAST_LENT];
     if is_misshapen(roll) {
         return 0;
     }

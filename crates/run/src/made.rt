@@ -16,6 +16,8 @@ use super::held::run_events;
 use bench::Bench;
 use bench::Made;
 use bench::Start;
+use message::BLOCK_WIDTH;
+use message::HEAD_LENGTH;
 
 pub(crate) fn is_no_act(roll: &[u8], event: usize) -> bool
     requires { ⌜ Shaped (now roll) ⌝ }
@@ -33,8 +35,8 @@ fn message_length(answer: Made) -> usize
 {
     match answer {
         Made::Nothing => 0,
-        Made::Log(k) => 16 + 10 * (k as usize),
-        Made::Proposal(k) => 16 + 10 * (k as usize),
+        Made::Log(k) => HEAD_LENGTH + BLOCK_WIDTH * (k as usize),
+        Made::Proposal(k) => HEAD_LENGTH + BLOCK_WIDTH * (k as usize),
         Made::Refused(_) => 0,
     }
 }

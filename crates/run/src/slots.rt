@@ -6,10 +6,10 @@ ghost use Rattle.message.specs.Numbers.{part};
 ghost use Rattle.agreement.specs.Limits.{mostSenders};
 ghost use Rattle.run.specs.RollSteps.{Puts, Few};
 ghost use Rattle.run.specs.Page.{flag, setBytes, headBytes, setsBytes, slotBytes, readBytes, pageBytes, pageLength};
-use super::MOST_SENDERS;
 use super::texts::put_word;
 use agreement::Agreement;
 use agreement::Grade;
+use agreement::MOST_SENDERS;
 use bench::Bench;
 use bench::Counted;
 
@@ -19,7 +19,7 @@ fn flag_of(test: bool) -> u8
     test as u8
 }
 
-fn put_set(page: &mut [u8], at: usize, set: [bool; 32]) -> usize
+fn put_set(page: &mut [u8], at: usize, set: [bool; MOST_SENDERS]) -> usize
     requires { ⌜ at + mostSenders ≤ length (now page) ⌝ }
     ensures { λ r. ⌜ Puts (setBytes set) at (now (page .entry)) r (now (page .exit)) ⌝ }
     ensures { λ r. ⌜ r ≡ at + mostSenders ⌝ }
@@ -34,7 +34,7 @@ fn put_set(page: &mut [u8], at: usize, set: [bool; 32]) -> usize
     p
 }
 
-fn put_row(page: &mut [u8], at: usize, row: [u8; 32]) -> usize
+fn put_row(page: &mut [u8], at: usize, row: [u8; MOST_SENDERS]) -> usize
     requires { ⌜ at + mostSenders ≤ length (now page) ⌝ }
     ensures { λ r. ⌜ Puts (part row 0 mostSenders) at (now (page .entry)) r (now (page .exit)) ⌝ }
     ensures { λ r. ⌜ r ≡ at + mostSenders ⌝ }
