@@ -75,7 +75,10 @@ fn undelivered(run: &Run) -> Vec<Failure> {
         };
         let has = with(run, to, due);
         for sent in beats(run, from).iter().filter(|sent| sent.beat == beat) {
-            let owed = |log: &&Message| log.kind == Kind::Log && log.view == view && !has.contains(log);
+            let owed = |log: &&Message| {
+                let same = log.kind == Kind::Log && log.view == view;
+                same && log.sender != to && !has.contains(log)
+            };
             let mut note = |log, made: bool| {
                 let missing = missing.entry((beat, due, named(log))).or_default();
                 let senders = if made { &mut missing.made } else { &mut missing.passed_on };
@@ -121,14 +124,13 @@ fn made(beat: &BeatRun) -> impl Iterator<Item = &Message> {
     beat.act.iter().filter_map(|act| act.made.as_ref())
 }
 
-/// What a bench took by its act at `due`, and what it made.
+/// What a bench took by its act at `due`.
 fn with(run: &Run, own: u8, due: u32) -> Vec<&Message> {
     let takes = beats(run, own)
         .iter()
         .filter(|beat| beat.beat <= due)
         .flat_map(|beat| &beat.takes);
-    let taken = takes.filter(|take| take.answer.is_ok()).map(|take| &take.message);
-    taken.chain(beats(run, own).iter().flat_map(made)).collect()
+    takes.filter(|take| take.answer.is_ok()).map(|take| &take.message).collect()
 }
 
 /// The LOGs taken under the number of a rule-keeper that never made them; those who took one in one beat together.

@@ -75,6 +75,7 @@ impl Stage<'_> {
         Ok(Run {
             rules: self.rules,
             breaches: premises::breaches(self.schedule.n, &lists),
+            own_missed: premises::own_missed(&lists),
             counted: premises::counted(&lists),
             broken: promise::broken(&self.volume.keepers),
             benches: self.volume.keepers.iter().zip(beats).map(bench_run).collect(),

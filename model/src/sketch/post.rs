@@ -31,10 +31,10 @@ pub fn is_met(fate: &Fate, run: &Run) -> bool {
             .iter()
             .flat_map(|beat| sent(beat).map(move |message| (beat.beat, message)));
         let others = || run.benches.iter().enumerate().filter(move |(to, _)| *to != from);
-        let is_owed = |message, beat, (to, bench): (usize, &BenchRun)| {
+        let meets = |message, beat, (to, bench): (usize, &BenchRun)| {
             is_about(fate, bench.own, message) && !had(&bench.beats, to, message, (beat, from))
         };
-        sendings.any(|(beat, message)| others().any(|other| is_owed(message, beat, other)))
+        sendings.any(|(beat, message)| others().any(|other| meets(message, beat, other)))
     })
 }
 

@@ -31,6 +31,8 @@ pub struct Run {
     pub benches: Vec<BenchRun>,
     /// Where the premises of demand 3 fail, judged from the lists of calls.
     pub breaches: Vec<Breach>,
+    /// Whether a rule-keeper misses a LOG under its own number that it never made and is not owed.
+    pub own_missed: bool,
     /// For each view that the premise on the majority asks about: the rule-keepers that count.
     pub counted: Vec<(u32, Vec<u8>)>,
     /// What of the promise is broken: a conflict of two decided logs first.

@@ -47,7 +47,7 @@ impl Volume {
         reply
     }
 
-    /// Hands over everything that must be with the bench before it acts at this beat.
+    /// Hands over everything that is due before the bench acts at this beat.
     pub fn hand_due(&mut self, place: usize, beat: u32) {
         for bytes in self.post.due(place, beat, true) {
             self.hand(place, &bytes);

@@ -1,4 +1,5 @@
-//! The post between rule-keepers: who is owed which message since when, and who has it.
+//! The post between rule-keepers: what is under way to whom since when, and who has it. It brings more than the premise on delivery
+//! asks for: also what bears the receiver's own number.
 use super::reading::log_window_is_open;
 use crate::history::message::Message;
 use std::collections::HashSet;
@@ -13,7 +14,7 @@ pub enum Course {
     Never,
 }
 
-struct Owed {
+struct Sending {
     since: u32,
     course: Course,
     view: u32,
@@ -27,7 +28,7 @@ pub type Withheld = (u8, u8, u32);
 pub type Courses = Box<dyn Fn(u8, &Message) -> Course>;
 
 pub struct Post {
-    owed: Vec<Vec<Owed>>,
+    under_way: Vec<Vec<Sending>>,
     /// The LOGs that each bench has taken or made.
     with: Vec<HashSet<Vec<u8>>>,
     /// The numbers of the rule-keepers, by their places.
@@ -37,9 +38,9 @@ pub struct Post {
 
 impl Post {
     pub fn new(numbers: Vec<u8>, courses: Courses) -> Post {
-        let (owed, with) = numbers.iter().map(|_| (vec![], HashSet::new())).unzip();
+        let (under_way, with) = numbers.iter().map(|_| (vec![], HashSet::new())).unzip();
         Post {
-            owed,
+            under_way,
             with,
             numbers,
             courses,
@@ -55,14 +56,14 @@ impl Post {
         Post::new(numbers, Box::new(course))
     }
 
-    /// A message made or passed on by the rule-keeper at this place is owed to every other that has it not.
+    /// A message made or passed on by the rule-keeper at this place is under way to every other that has it not.
     pub fn send(&mut self, from: usize, beat: u32, message: &Message) {
         let bytes = message.write();
-        for to in (0..self.owed.len()).filter(|&to| to != from) {
+        for to in (0..self.under_way.len()).filter(|&to| to != from) {
             let course = (self.courses)(self.numbers[to], message);
-            let queued = self.owed[to].iter().any(|owed| owed.bytes == bytes);
+            let queued = self.under_way[to].iter().any(|sending| sending.bytes == bytes);
             if course != Course::Never && !queued && !self.with[to].contains(&bytes) {
-                self.owed[to].push(Owed {
+                self.under_way[to].push(Sending {
                     since: beat,
                     course,
                     view: message.view,
@@ -72,25 +73,31 @@ impl Post {
         }
     }
 
-    /// The rule-keeper at this place has the LOG: nothing more is owed of it.
+    /// The rule-keeper at this place has the LOG: it is under way to it no longer.
     pub fn arrive(&mut self, to: usize, bytes: &[u8]) {
         self.with[to].insert(bytes.to_vec());
-        self.owed[to].retain(|owed| owed.bytes != bytes);
+        self.under_way[to].retain(|sending| sending.bytes != bytes);
     }
 
     /// What must be handed over in the gathering of this beat, before the act if there is one.
     pub fn due(&self, to: usize, beat: u32, acts: bool) -> Vec<Vec<u8>> {
-        let due = |owed: &&Owed| match owed.course {
-            Course::Due => acts && owed.since < beat && log_window_is_open(owed.view, beat),
+        let due = |sending: &&Sending| match sending.course {
+            Course::Due => acts && sending.since < beat && log_window_is_open(sending.view, beat),
             Course::At(at) => at == beat,
             Course::Never => false,
         };
-        self.owed[to].iter().filter(due).map(|owed| owed.bytes.clone()).collect()
+        self.under_way[to]
+            .iter()
+            .filter(due)
+            .map(|sending| sending.bytes.clone())
+            .collect()
     }
 
     /// What may be handed over in this beat, sent in this beat or before.
     pub fn ready(&self, to: usize, beat: u32) -> Vec<Vec<u8>> {
-        let ready = self.owed[to].iter().filter(|owed| log_window_is_open(owed.view, beat));
-        ready.map(|owed| owed.bytes.clone()).collect()
+        let ready = self.under_way[to]
+            .iter()
+            .filter(|sending| log_window_is_open(sending.view, beat));
+        ready.map(|sending| sending.bytes.clone()).collect()
     }
 }

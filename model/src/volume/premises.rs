@@ -89,19 +89,33 @@ pub fn breaches(n: u8, lists: &[Reading]) -> Vec<Breach> {
     found
 }
 
-/// Passing on in a beat that is not acted in counts; a bench need not be handed what it made itself; where the window has
-/// passed by its next act, nothing is owed.
+/// Passing on in a beat that is not acted in counts; a bench is owed no LOG under its own number, whoever made that one.
 fn undelivered(from: &Reading, sent: &Sent, to: &Reading) -> Option<Breach> {
-    let due = to.first_awake_after(sent.beat)?;
-    let delivered = to.made.contains(&sent.bytes) || to.with.get(&sent.bytes).is_some_and(|&beat| beat <= due);
-    let owed = log_window_is_open(sent.view, due) && !delivered;
-    owed.then_some(Breach::Delivery {
+    let due = missed(sent, to).filter(|_| sent.sender != to.own)?;
+    Some(Breach::Delivery {
         from: from.own,
         beat: sent.beat,
         to: to.own,
         due,
         view: sent.view,
     })
+}
+
+/// The first beat after the sending in which the bench is awake, if the LOG is not with it by its act then; where the window has
+/// passed by that beat, it misses nothing.
+fn missed(sent: &Sent, to: &Reading) -> Option<u32> {
+    let due = to.first_awake_after(sent.beat)?;
+    let is_with = to.with.get(&sent.bytes).is_some_and(|&beat| beat <= due);
+    (log_window_is_open(sent.view, due) && !is_with).then_some(due)
+}
+
+/// Whether some bench misses a LOG under its own number that it never made: no breach, for it is not owed that one.
+pub fn own_missed(lists: &[Reading]) -> bool {
+    let forged = |sent: &Sent, to: &Reading| sent.sender == to.own && !to.made.contains(&sent.bytes);
+    let misses = |to: &Reading, from: &Reading| from.sent.iter().any(|sent| forged(sent, to) && missed(sent, to).is_some());
+    lists
+        .iter()
+        .any(|to| lists.iter().any(|from| from.own != to.own && misses(to, from)))
 }
 
 /// LOGs taken under a rule-keeper's number that it made at no place of its list; the taker may be that very bench.
@@ -232,6 +246,34 @@ mod tests {
         assert_eq!(found(3, &[passes_on, told_again], Premise::Delivery), []);
         let passes_on = keeper(3, 0, &[Call::Begin(1), hand(2, &[5])]);
         assert_eq!(found(3, &[passes_on, other_story], Premise::Delivery), [late(1, 2)]);
+    }
+
+    /// Rule-breaker 2 forges a LOG of bench 1, which bench 0 passes on; bench 1 is told of it or not.
+    #[test]
+    fn a_log_under_a_benchs_own_number_is_not_owed_to_it() {
+        let (taker, beat, number, view) = (0, 1, 1, 0);
+        let taken_by = |taker, beat| Breach::Numbers {
+            taker,
+            beat,
+            number,
+            view,
+        };
+        let passes_on = || keeper(3, 0, &[Call::Begin(1), hand(1, &[5])]);
+        let untold = || [passes_on(), keeper(3, 1, &awake(&[1, 2]))];
+        assert_eq!(found(3, &untold(), Premise::Delivery), []);
+        assert_eq!(found(3, &untold(), Premise::Numbers), [taken_by(taker, beat)]);
+        let told = || keeper(3, 1, &[awake(&[1]), vec![Call::Begin(2), hand(1, &[5]), ACT]].concat());
+        assert_eq!(found(3, &[passes_on(), told()], Premise::Delivery), []);
+        assert_eq!(
+            found(3, &[passes_on(), told()], Premise::Numbers),
+            [taken_by(taker, beat), taken_by(1, 2)]
+        );
+        let another = [keeper(3, 0, &[Call::Begin(1), hand(2, &[5])]), keeper(3, 1, &awake(&[1, 2]))];
+        assert_eq!(
+            found(3, &another, Premise::Delivery),
+            [late(1, 2)],
+            "one under another number is owed"
+        );
     }
 
     #[test]

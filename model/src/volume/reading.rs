@@ -7,8 +7,20 @@ use std::collections::{BTreeSet, HashMap, HashSet};
 /// A LOG that the bench made or passed on, and the beat of it.
 pub struct Sent {
     pub beat: u32,
+    pub sender: u8,
     pub view: u32,
     pub bytes: Vec<u8>,
+}
+
+impl Sent {
+    fn new(beat: u32, message: &Message) -> Sent {
+        Sent {
+            beat,
+            sender: message.sender,
+            view: message.view,
+            bytes: message.write(),
+        }
+    }
 }
 
 /// A LOG that the bench took, and the beat of it.
@@ -68,11 +80,7 @@ impl Reading {
                 self.awake.insert(beat);
                 if let Some(vote) = made.as_ref().filter(|message| message.kind == Kind::Log) {
                     self.made.insert(vote.write());
-                    self.sent.push(Sent {
-                        beat,
-                        view: vote.view,
-                        bytes: vote.write(),
-                    });
+                    self.sent.push(Sent::new(beat, vote));
                 }
             }
             _ => {}
@@ -81,11 +89,7 @@ impl Reading {
 
     fn take(&mut self, beat: u32, word: Word, message: Message, bytes: &[u8]) {
         if word != Word::Known {
-            self.sent.push(Sent {
-                beat,
-                view: message.view,
-                bytes: bytes.to_vec(),
-            });
+            self.sent.push(Sent::new(beat, &message));
         }
         self.with.entry(bytes.to_vec()).or_insert(beat);
         self.taken.push(Taken {

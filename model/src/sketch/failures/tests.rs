@@ -76,6 +76,25 @@ fn a_forged_log_is_named_with_all_who_took_it_in_one_beat() {
     assert_eq!(found(&schedule), expected);
 }
 
+/// Bench 0 is told a LOG forged under bench 1's number, and another; neither reaches bench 1.
+#[test]
+fn a_forged_log_need_not_reach_whom_it_seems_to_be_of() {
+    let mut schedule = awake(4, 3, 3);
+    let mut forged = vote(3, 2, &[0], 0, &[9]);
+    forged.message.sender = 1;
+    schedule.tells = vec![forged];
+    schedule.fates = vec![fate(1, 1, None)];
+    let took = |who: u8, beat: u32| {
+        let words = format!("bench {who} took LOG v0 of 1 [9] at beat {beat}, which bench 1 never made");
+        (words, at(&[who], beat))
+    };
+    assert_eq!(found(&schedule), [took(0, 2), took(2, 3)]);
+    schedule.tells.push(vote(3, 2, &[0], 0, &[8]));
+    schedule.fates.push(fate(3, 1, None));
+    let lost = "LOG v0 of 3 [8], passed on by 0 at beat 2, was not with 1 by its act at beat 3".to_string();
+    assert_eq!(found(&schedule), [(lost, at(&[1], 3)), took(0, 2), took(2, 3)]);
+}
+
 #[test]
 fn too_few_are_a_set_in_braces_and_views_alike_stand_together() {
     let mut schedule = awake(4, 2, 16);

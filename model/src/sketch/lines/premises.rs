@@ -9,7 +9,8 @@ use crate::volume::premises::Premise;
 pub fn tell(sheet: &mut Sheet, schedule: &Schedule, run: &Run) {
     let failures = failures(schedule, run);
     sheet.say(0, "The premises of demand 3, judged from these lists of calls");
-    tell_premise(sheet, &failures, Premise::Delivery, DELIVERY);
+    let delivery = if run.own_missed { DELIVERY_BUT_OWN } else { DELIVERY };
+    tell_premise(sheet, &failures, Premise::Delivery, delivery);
     tell_premise(sheet, &failures, Premise::Numbers, NUMBERS);
     tell_premise(sheet, &failures, Premise::Majority, MAJORITY);
     tell_counts(sheet, schedule, run);
@@ -18,6 +19,11 @@ pub fn tell(sheet: &mut Sheet, schedule: &Schedule, run: &Run) {
 const DELIVERY: [&str; 2] = [
     "Delivery holds: each LOG that a rule-keeper made or passed on was with the others by their next act, while its view was open.",
     "Delivery FAILS:",
+];
+const DELIVERY_BUT_OWN: [&str; 2] = [
+    "Delivery holds: each LOG that a rule-keeper made or passed on was with the others by their next act, while its view was open, \
+     but for a LOG under a bench's own number, which need not be handed to that bench.",
+    DELIVERY[1],
 ];
 const NUMBERS: [&str; 2] = [
     "Numbers holds: each LOG taken under a rule-keeper's number was made by that rule-keeper.",
@@ -61,21 +67,43 @@ fn tell_counts(sheet: &mut Sheet, schedule: &Schedule, run: &Run) {
 mod tests {
     use super::*;
     use crate::sketch::play::play;
-    use crate::sketch::samples::awake;
+    use crate::sketch::samples::{awake, fate, vote};
     use crate::volume::schedule::Presence;
+
+    fn told(schedule: &Schedule) -> String {
+        let mut sheet = Sheet::default();
+        tell(&mut sheet, schedule, &play(schedule).unwrap().runs[0]);
+        sheet.text
+    }
+
+    #[test]
+    fn a_forged_log_that_its_number_was_not_handed_is_left_out_in_words() {
+        let mut schedule = awake(4, 3, 3);
+        let mut forged = vote(3, 2, &[0], 0, &[9]);
+        forged.message.sender = 1;
+        schedule.tells = vec![forged];
+        let left_out = "but for a LOG under a bench's own number, which need not be handed to that bench.";
+        let says = |schedule: &Schedule| {
+            let text = told(schedule).split_whitespace().collect::<Vec<_>>().join(" ");
+            assert!(text.contains("Delivery holds") && text.contains("Numbers FAILS"), "{text}");
+            text.contains(left_out)
+        };
+        assert!(!says(&schedule), "handed to bench 1 at beat 3");
+        schedule.fates = vec![fate(1, 1, None)];
+        assert!(says(&schedule));
+    }
 
     #[test]
     fn a_view_whose_vote_the_sketch_does_not_reach_says_so() {
         let mut schedule = awake(3, 2, 8);
         schedule.presence.iter_mut().for_each(|beats| beats[5] = Presence::Skips);
-        let mut sheet = Sheet::default();
-        tell(&mut sheet, &schedule, &play(&schedule).unwrap().runs[0]);
-        let counts: Vec<&str> = sheet.text.lines().filter_map(|line| line.strip_prefix("    ")).collect();
+        let text = told(&schedule);
+        let counts: Vec<&str> = text.lines().filter_map(|line| line.strip_prefix("    ")).collect();
         let expected = [
             "view 0: 2 (0 1) against 1 rule-breaker",
             "view 1: 0 (nobody) against 1 rule-breaker: TOO FEW",
             "view 2: nobody, since the sketch ends before its vote at beat 9: TOO FEW",
         ];
-        assert!(counts.ends_with(&expected), "{}", sheet.text);
+        assert!(counts.ends_with(&expected), "{text}");
     }
 }

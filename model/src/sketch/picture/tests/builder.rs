@@ -72,6 +72,7 @@ impl Play {
             rules,
             benches: schedule.keepers.iter().zip(&schedule.presence).map(bench).collect(),
             breaches: vec![],
+            own_missed: false,
             counted: vec![],
             broken: vec![],
         };
