@@ -1,5 +1,6 @@
 //! The three premises of demand 3, judged from the lists alone (document 01, Calendar of acts, from "In demand 3" on).
 use super::reading::{log_window_is_open, Reading, Sent};
+use crate::history::message::LAST_VIEW;
 use std::collections::HashMap;
 use std::fmt;
 
@@ -147,7 +148,8 @@ fn outnumbered(n: u8, lists: &[Reading]) -> Vec<Breach> {
 /// The rule-keepers awake at both beats that the majority premise looks at, for each view up to the last of which a rule-keeper
 /// begins any beat; the beats past the last view's belong to none.
 pub fn counted(lists: &[Reading]) -> Vec<(u32, Vec<u8>)> {
-    let Some(last) = lists.iter().filter_map(|list| list.begun.last()).max() else {
+    let begun = lists.iter().flat_map(|list| &list.begun);
+    let Some(last) = begun.map(|beat| beat / 4).filter(|view| *view <= LAST_VIEW).max() else {
         return vec![];
     };
     let awake = |view: u32| {
@@ -158,7 +160,7 @@ pub fn counted(lists: &[Reading]) -> Vec<(u32, Vec<u8>)> {
             .filter(|list| list.awake.contains(&(4 * view + 1)));
         both.map(|list| list.own).collect::<Vec<u8>>()
     };
-    (0..=(last / 4).min(1_000_000)).map(|view| (view, awake(view))).collect()
+    (0..=last).map(|view| (view, awake(view))).collect()
 }
 
 #[cfg(test)]
@@ -316,6 +318,9 @@ mod tests {
         assert_eq!(asked(&[awake(&[1, 3]), vec![Call::Begin(4)]].concat()), 1);
         assert_eq!(asked(&awake(&[1, 3, 4, 5])), 0);
         assert_eq!(asked(&awake(&[1, 2, 5])), 1, "awake at 5 and not at 3");
+        assert_eq!(asked(&[Call::Begin(4_000_004)]), 0, "a beat of no view");
+        assert_eq!(asked(&awake(&[1, 4_000_006])), 0, "up to view 0 alone");
+        assert_eq!(asked(&awake(&[1, 4_000_003])), 1_000_000, "up to the last view");
         assert_eq!(
             found(2, &[keeper(2, 0, &awake(&[1]))], Premise::Majority).len(),
             1,
