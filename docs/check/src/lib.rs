@@ -5,6 +5,7 @@ pub mod code;
 pub mod declared;
 pub mod definitions;
 pub mod finding;
+pub mod layers;
 pub mod markdown;
 pub mod paths;
 pub mod reading_names;

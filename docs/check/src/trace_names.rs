@@ -1,6 +1,7 @@
 //! The names and the paths in TRACE.md.
 use crate::declared::Declared;
 use crate::finding::Finding;
+use crate::layers::{crates_of, unknown_layer};
 use crate::markdown::{blocks, Block, Kind};
 use crate::paths::path_at;
 use crate::spans::{spans, Span};
@@ -8,7 +9,7 @@ use crate::tree::Tree;
 
 /// Words of Rattle that the document speaks of: they look like names and are none.
 const KEYWORDS: [&str; 2] = ["requires", "ensures"];
-/// How a path begins that is below the crate which the row speaks of.
+/// How a path begins that is below a crate which the row speaks of.
 const IN_CRATE: [&str; 5] = ["specs/", "proofs/", "src/", "must-fail/", "more-edits/"];
 /// How a path begins that is below the root.
 const IN_ROOT: [&str; 5] = ["crates/", "model/", "docs/", ".ci/", "./"];
@@ -17,9 +18,11 @@ pub fn check(document: &str, text: &str, tree: &Tree) -> Vec<Finding> {
     let declared = Declared::of(tree);
     let mut wrong = vec![];
     for block in blocks(text).iter().filter(|block| block.kind != Kind::Fence) {
+        let crates = crates_of(block, tree);
+        let unknown = unknown_layer(block).map(|said| format!("there is no layer called {said}"));
+        wrong.extend(unknown.map(|what| Finding::new(document, block.line, what)));
         wrong.extend(undeclared(document, block, tree, &declared));
-        wrong.extend(missing(document, block, tree));
-        wrong.extend(misplaced(document, block, tree, &declared));
+        wrong.extend(misplaced(document, block, (tree, &crates), &declared));
     }
     wrong.sort_by_key(|finding| finding.line);
     wrong
@@ -47,14 +50,6 @@ fn name_in(span: &Span) -> Option<&str> {
     (name.split("::").all(is_plain) && !KEYWORDS.contains(&name)).then_some(name)
 }
 
-/// Paths that lead nowhere.
-fn missing(document: &str, block: &Block, tree: &Tree) -> Vec<Finding> {
-    let paths = paths(&block.text);
-    let nowhere = paths.iter().filter(|(_, path)| places(path, tree).is_empty());
-    let told = nowhere.map(|(place, path)| Finding::new(document, block.line_at(*place), format!("there is no {path}")));
-    told.collect()
-}
-
 /// The paths in a text, with where they start.
 fn paths(text: &str) -> Vec<(usize, &str)> {
     let roots = IN_CRATE.iter().chain(&IN_ROOT);
@@ -63,35 +58,60 @@ fn paths(text: &str) -> Vec<(usize, &str)> {
     paths
 }
 
-/// What a path may mean: below the root, or below any crate.
-fn places(path: &str, tree: &Tree) -> Vec<String> {
+/// What a path may mean: below the root, or below any of these crates.
+fn places(path: &str, (tree, crates): (&Tree, &[&str])) -> Vec<String> {
     let bare = path.trim_end_matches('/');
-    let is_bare = IN_CRATE.iter().any(|root| path.starts_with(root));
     let mut places = vec![bare.to_string()];
-    if is_bare {
-        places = tree.crates().iter().map(|name| format!("crates/{name}/{bare}")).collect();
+    if is_in_crate(path) {
+        places = crates.iter().map(|name| format!("crates/{name}/{bare}")).collect();
     }
     places.retain(|place| tree.exists(place));
     places
 }
 
-/// Names said to be in a file that does not declare them. Of a path below a crate, one crate's file declares them all.
-fn misplaced(document: &str, block: &Block, tree: &Tree, declared: &Declared) -> Vec<Finding> {
+fn is_in_crate(path: &str) -> bool {
+    IN_CRATE.iter().any(|root| path.starts_with(root))
+}
+
+/// Paths that lead nowhere, names said to be in a file that does not declare them, and paths that may mean the files of two crates.
+fn misplaced(document: &str, block: &Block, source: (&Tree, &[&str]), declared: &Declared) -> Vec<Finding> {
     let spans = spans(block);
     let mut wrong = vec![];
     for (place, path) in paths(&block.text) {
         let named = said_in(&block.text[..place], &spans);
         let names: Vec<&str> = named.iter().rev().filter_map(|span| name_in(span)).collect();
-        let missing = places(path, tree)
-            .into_iter()
-            .map(|place| declared.missing_below(&place, &names));
-        let missing = missing.min_by_key(Vec::len).unwrap_or_default();
-        if !missing.is_empty() {
-            let what = format!("{path} does not declare {}", missing.join(", "));
-            wrong.push(Finding::new(document, block.line_at(place), what));
-        }
+        let what = judged(path, &names, source, declared);
+        wrong.extend(what.map(|what| Finding::new(document, block.line_at(place), what)));
     }
     wrong
+}
+
+/// What is wrong with a path in which these names are said to be: one file, or one folder, declares them all. Where no name is
+/// given a file must be the only one of its path, while a folder may be that of any crate.
+fn judged(path: &str, names: &[&str], source: (&Tree, &[&str]), declared: &Declared) -> Option<String> {
+    let places = places(path, source);
+    if places.is_empty() {
+        let among = if is_in_crate(path) { source.1 } else { &[] };
+        return Some(format!("there is no {path}{}", in_crates(among)));
+    }
+    let missing = |place: &String| declared.missing_below(place, names);
+    let least = places.iter().map(missing).min_by_key(Vec::len).unwrap_or_default();
+    if !least.is_empty() {
+        return Some(format!("{path} does not declare {}", least.join(", ")));
+    }
+    let meant: Vec<&String> = places.iter().filter(|place| missing(place).is_empty()).collect();
+    let is_file = path.rsplit('/').next().is_some_and(|last| last.contains('.'));
+    let is_open = names.is_empty() && !is_file;
+    let all: Vec<&str> = meant.iter().map(|place| place.as_str()).collect();
+    (meant.len() > 1 && !is_open).then(|| format!("{path} may be {}: say which", all.join(" or ")))
+}
+
+/// The crates that a path was looked for in, where they are few.
+fn in_crates(crates: &[&str]) -> String {
+    match crates {
+        [_, _, _, _, ..] | [] => String::new(),
+        _ => format!(" in {}", crates.join(", ")),
+    }
 }
 
 /// The names before a path, where the text has the form `name`, `other` in PATH; each may have a gloss in round brackets.
