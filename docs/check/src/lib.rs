@@ -1,5 +1,6 @@
 //! The documents held against the sources: the names they use, the paths, the edits, the chart.
 pub mod antt;
+pub mod believed;
 pub mod chart;
 pub mod code;
 pub mod declared;
@@ -8,6 +9,7 @@ pub mod finding;
 pub mod layers;
 pub mod markdown;
 pub mod paths;
+pub mod public;
 pub mod reading_names;
 pub mod sentences;
 pub mod spans;

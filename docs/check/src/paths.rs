@@ -28,7 +28,7 @@ pub fn check(document: &str, text: &str, tree: &Tree) -> Vec<Finding> {
 }
 
 /// The targets of the links within the repository, each with its line: a file, or `#` and a heading of the same document.
-fn links(block: &Block) -> Vec<(usize, String)> {
+pub fn links(block: &Block) -> Vec<(usize, String)> {
     let plain = without_code(block);
     let targets = plain.match_indices("](").filter_map(|(place, mark)| {
         let (target, _) = plain[place + mark.len()..].split_once(')')?;

@@ -1,7 +1,7 @@
 //! The documents as they are.
 use check::finding::{told, Finding};
 use check::tree::Tree;
-use check::{chart, paths, reading_names, sentences, trace_edits, trace_names, trace_rows};
+use check::{believed, chart, paths, reading_names, sentences, trace_edits, trace_names, trace_rows};
 
 const READING: &str = "docs/READING.md";
 const TRACE: &str = "docs/TRACE.md";
@@ -62,4 +62,13 @@ fn links_and_paths_lead_somewhere() {
     ] {
         hold(document, |text, tree| paths::check(document, text, tree));
     }
+}
+
+/// With --nocapture: how many lines of each file count.
+#[test]
+fn reading_says_how_many_lines_must_be_believed() {
+    hold(READING, |text, tree| {
+        println!("{}", believed::table(tree));
+        believed::check(READING, text, tree)
+    });
 }
