@@ -17,7 +17,7 @@ use Rattle.bench.specs.Calendar.{lastBeat, viewOf, placeIn, actAt}
 use Rattle.bench.specs.Calls.{refused, done, took, acted, Step, openTo, State}
 use Rattle.bench.specs.Record.{freshBench, beatOf, idle, beyond}
 use Rattle.bench.specs.ByRecord.{refuse, notOpened, openOf, begun, beginOf, fileMessage, taken, receives, receiveOf, actedOf, over, actOf}
-use Rattle.bench.specs.Steps.{Usable}
+use Rattle.bench.specs.Tested.{Usable}
 use Rattle.bench.proofs.ReadRefusals.{ReadCause, read-refuses, read-cause, read-number}
 
 -- ---- answers apart

@@ -187,7 +187,7 @@ stated r = (r .reply, r .bench)
 
 pub rows-hold : map found rows ≡ map stated rows
 unfolding
-    beginOf receiveOf readOf malformed meaningIn choice.some actOf actedOf changed snappedOne snappedTwo settled candidateOf lockOf decisionOf fileMessage
+    beginOf receiveOf readOf malformed meaningIn choice.anyOf actOf actedOf changed snappedOne snappedTwo settled candidateOf lockOf decisionOf fileMessage
     keptAgreement keptProposals agreementOf proposalsOf withAgreement anyPlace beyondAgreement beyondProposals beyond propose vote makes voteAmong keptProposal
     fileProposalOf bestOf gradeAmong fileOf overlong maySupport supports hasGrade under prefixes candidates longer longestOf longest weigh logAt messageBytes
     bytesOf part put numberAt numbersAt bytesFor bytesForEach isPrefix sameLog inStep namesOf countsOf

@@ -16,7 +16,7 @@ use Rattle.bench.specs.Calendar.{lastBeat}
 use Rattle.bench.specs.Calls.{State}
 use Rattle.bench.specs.Record.{withGatheringOver, beyondAgreement, beyondProposals, beyond}
 use Rattle.bench.specs.Answers.{lentAs, stateOf}
-use Rattle.bench.specs.Steps.{Usable, Tested, Before}
+use Rattle.bench.specs.Tested.{Usable, Tested, Before}
 use Rattle.bench.specs.declared.Bench.{Bench}
 
 -- ---- the record

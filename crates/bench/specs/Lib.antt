@@ -14,5 +14,5 @@ pub mod ByRecord
 pub mod Answers
 -- What an act reads, for whoever shows a schedule:
 pub mod Readings
--- What inner functions ask and promise; no reader needs these:
-pub mod Steps
+-- What a call has tested; no reader needs these:
+pub mod Tested

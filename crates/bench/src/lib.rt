@@ -87,9 +87,3 @@ pub struct Counted {
     pub supporters: usize,
     pub senders: usize,
 }
-
-// The log voted for, which stands in the lists from this place on.
-pub enum Found {
-    At(usize, u8),
-    Nowhere,
-}

@@ -13,7 +13,8 @@ use Rattle.bench.specs.Acts.{makes}
 use Rattle.bench.specs.Record.{beatOf, idle, withGatheringOver, beyond}
 use Rattle.bench.specs.ByRecord.{refuse, settled, snappedTwo, changed, actedOf, over, actOf}
 use Rattle.bench.specs.Answers.{lentAs, stateOf, madeReply, ActGives}
-use Rattle.bench.specs.Steps.{Usable, noBlock, Leaves, Snaps}
+use Rattle.bench.specs.Tested.{Usable}
+use Rattle.calls.specs.Steps.{noBlock, Leaves, Snaps}
 use Rattle.bench.specs.declared.Bench.{Bench}
 use Rattle.bench.specs.declared.Acted.{Acted}
 use Rattle.bench.specs.declared.Made.the-variants as makings

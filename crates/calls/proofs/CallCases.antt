@@ -22,7 +22,7 @@ use Rattle.bench.specs.Calendar.{lastBeat, logWindow, proposalWindow}
 use Rattle.bench.specs.Calls.{done, took, Opening, Step}
 use Rattle.bench.specs.Record.{freshBench, ofView, agreementOf, proposalsOf, beatOf, notAboveLast, idle, beyond, withEven, withOdd, withAgreement, withProposals}
 use Rattle.bench.specs.ByRecord.{refuse, notOpened, openOf, begunBench, beginOf, fileLog, fileProposal, fileMessage, taken, receives, receiveOf}
-use Rattle.bench.specs.Steps.{Usable}
+use Rattle.bench.specs.Tested.{Usable}
 use Rattle.bench.specs.Answers.{lentAs, stateOf, startReply, takenReply, OpenGives, BeginGives, ReceiveGives}
 use Rattle.bench.specs.declared.Bench.{Bench}
 use Rattle.bench.specs.declared.Start.{Start}

@@ -22,7 +22,8 @@ use Rattle.bench.specs.Calls.{State}
 use Rattle.bench.specs.Record.{ofView, agreementOf, withEven, withOdd, withAgreement, withDecided, withParted}
 use Rattle.bench.specs.ByRecord.{decisionOf, settled, snappedOne, snappedTwo, changed}
 use Rattle.bench.specs.Answers.{lentAs, stateOf}
-use Rattle.bench.specs.Steps.{Usable, Before, Leaves, Snaps}
+use Rattle.bench.specs.Tested.{Usable, Before}
+use Rattle.calls.specs.Steps.{Leaves, Snaps}
 use Rattle.bench.specs.declared.Bench.{Bench}
 use Rattle.calls.proofs.SeeingLaws.{seen-none, seen-at}
 use Rattle.bench.proofs.TestedLaws.{within-limits, before-within, decided-within}

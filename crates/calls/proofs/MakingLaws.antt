@@ -19,7 +19,8 @@ use Rattle.bench.specs.Calls.{State}
 use Rattle.bench.specs.Acts.{propose, vote, makes}
 use Rattle.bench.specs.ByRecord.{settled, changed, candidateOf, lockOf, seenOf, actedOf}
 use Rattle.bench.specs.Answers.{stateOf, madeReply, ActGives}
-use Rattle.bench.specs.Steps.{Tested, foundLog, FoundBefore, Finds, ballot, ballotOf, Making, madeStep, noBlock}
+use Rattle.bench.specs.Tested.{Tested}
+use Rattle.calls.specs.Steps.{foundLog, FoundBefore, Finds, ballot, ballotOf, Making, madeStep, noBlock}
 use Rattle.agreement.specs.Limits.{placeOf}
 use Rattle.agreement.specs.Grades.{Gives}
 use Rattle.agreement.specs.declared.Grade.{Grade}
@@ -28,8 +29,8 @@ use Rattle.bench.specs.Layout.{logsPlace}
 use Rattle.bench.specs.declared.Bench.{Bench}
 use Rattle.calls.proofs.SeeingLaws.{seen-none, seen-at}
 use Rattle.bench.specs.declared.Acted.{Acted}
-use Rattle.bench.specs.declared.Found.{Found}
-use Rattle.bench.specs.declared.Found.the-variants.{At, Nowhere}
+use Rattle.calls.specs.declared.seeing.Found.{Found}
+use Rattle.calls.specs.declared.seeing.Found.the-variants.{At, Nowhere}
 use Rattle.bench.specs.declared.Made.the-variants as makings
 
 -- ---- an act that proposes or votes, by what it makes: it changes nothing besides

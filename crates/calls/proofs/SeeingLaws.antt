@@ -30,9 +30,10 @@ use Rattle.bench.specs.Calls.{State}
 use Rattle.bench.specs.Record.{agreementOf, proposalsOf}
 use Rattle.bench.specs.ByRecord.{candidateOf, lockOf, decisionOf, seenOf}
 use Rattle.bench.specs.Answers.{lentAs, stateOf}
-use Rattle.bench.specs.Steps.{Usable, Finds, ballot, ballotOf}
+use Rattle.bench.specs.Tested.{Usable}
+use Rattle.calls.specs.Steps.{Finds, ballot, ballotOf}
 use Rattle.bench.specs.declared.Bench.{Bench}
-use Rattle.bench.specs.declared.Found.the-variants.{At, Nowhere}
+use Rattle.calls.specs.declared.seeing.Found.the-variants.{At, Nowhere}
 use Rattle.bench.proofs.TestedLaws.{within-limits, lists-roomy, before-within}
 use Rattle.bench.proofs.Buffer.{proposed-short}
 use Rattle.bench.proofs.Filling.{logs-low}

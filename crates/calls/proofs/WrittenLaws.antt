@@ -30,7 +30,7 @@ use Rattle.bench.specs.Calls.{acted, State}
 use Rattle.bench.specs.Record.{agreementOf, proposalsOf, withAgreement, withProposals}
 use Rattle.bench.specs.ByRecord.{Outcome, logOutcome, proposalOutcome, fileLog, fileProposal, fileMessage}
 use Rattle.bench.specs.Answers.{stateOf, contentMade, madeReply, ActGives}
-use Rattle.bench.specs.Steps.{Making, madeStep, Leaves}
+use Rattle.calls.specs.Steps.{Making, madeStep, Leaves}
 use Rattle.bench.specs.declared.Bench.{Bench}
 use Rattle.bench.specs.declared.Made.{Made}
 use Rattle.bench.specs.declared.Made.the-variants as makings

@@ -3,7 +3,7 @@ ghost use Rattle.bench.specs.Calendar.{viewOf, placeIn, actAt};
 ghost use Rattle.bench.specs.Record.{beatOf};
 ghost use Rattle.bench.specs.ByRecord.{over, actedOf};
 ghost use Rattle.bench.specs.Answers.{stateOf, ActGives};
-ghost use Rattle.bench.specs.Steps.{Tested};
+ghost use Rattle.bench.specs.Tested.{Tested};
 use super::deciding::decide_and_snap;
 use super::deciding::snap_two;
 use super::making::propose;

@@ -4,7 +4,7 @@ ghost use mathlib.Core.Path.{_≡_};
 ghost use Rattle.bench.specs.Layout.{outOfRange, shortLists};
 ghost use Rattle.bench.specs.Record.{anyPlace, badSender, badProposer, beyondAgreement, beyondProposals, beyond};
 ghost use Rattle.bench.specs.Answers.{lentAs};
-ghost use Rattle.bench.specs.Steps.{badAt, badProposalAt};
+ghost use Rattle.calls.specs.Steps.{badAt, badProposalAt};
 use agreement::Agreement;
 use agreement::MOST_SENDERS;
 use agreement::Proposals;

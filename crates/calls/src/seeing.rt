@@ -7,7 +7,8 @@ ghost use Rattle.agreement.specs.Grades.{Gives};
 ghost use Rattle.bench.specs.Layout.{logsPlace};
 ghost use Rattle.bench.specs.ByRecord.{candidateOf, lockOf, decisionOf};
 ghost use Rattle.bench.specs.Answers.{stateOf};
-ghost use Rattle.bench.specs.Steps.{Usable, Finds, ballotOf};
+ghost use Rattle.bench.specs.Tested.{Usable};
+ghost use Rattle.calls.specs.Steps.{Finds, ballotOf};
 use super::record::is_even;
 use super::record::logs_place;
 use super::record::of_view;
@@ -15,9 +16,14 @@ use super::record::proposals_of;
 use agreement::Choice;
 use agreement::Grade;
 use bench::Bench;
-use bench::Found;
 use bench::PROPOSALS_PLACE;
 use message::MOST_BLOCKS;
+
+// The log voted for, which stands in the lists from this place on.
+pub(crate) enum Found {
+    At(usize, u8),
+    Nowhere,
+}
 
 // The place of sender i's log in the agreement of the view before v. For v = 0 there is none, and of the empty log nothing is read.
 pub(crate) fn place_before(v: u32, i: u8) -> usize

@@ -9,7 +9,7 @@ use Rattle.message.specs.Numbers.{numberIn}
 use Rattle.bench.specs.Calls.{Call, begin, receive, act, State}
 use Rattle.bench.specs.ByRecord.{beginOf, receiveOf, actOf}
 use Rattle.bench.specs.Answers.{stateOf, BeginGives, ReceiveGives, ActGives}
-use Rattle.bench.specs.Steps.{Leaves}
+use Rattle.calls.specs.Steps.{Leaves}
 use Rattle.bench.specs.declared.Bench.{Bench}
 use Rattle.bench.specs.declared.Started.{Started}
 use Rattle.bench.specs.declared.Received.{Received}

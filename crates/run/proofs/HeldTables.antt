@@ -47,7 +47,7 @@ vote-of v = some (logMessage (record { sender = 0; view = v; log = found }))
 pub sample-made : map (λ (k : ℕ). madeOf sampleRoll k freshBuffer) (1 ∷ 3 ∷ 5 ∷ 11 ∷ 13 ∷ 10 ∷ 14 ∷ []) ≡ proposal ∷ vote-of 0 ∷ none ∷ vote-of 1 ∷ none ∷ none ∷ none ∷ []
 unfolding
     madeOf madeOn noAct heldAfter bodyFrom misshapen misfits wrongMark rightBody callAt callsFrom numberIn openOf
-    beginOf receiveOf readOf malformed meaningIn choice.some actOf actedOf changed snappedOne snappedTwo settled candidateOf lockOf decisionOf fileMessage keptAgreement keptProposals agreementOf
+    beginOf receiveOf readOf malformed meaningIn choice.anyOf actOf actedOf changed snappedOne snappedTwo settled candidateOf lockOf decisionOf fileMessage keptAgreement keptProposals agreementOf
     proposalsOf withAgreement anyPlace beyondAgreement beyondProposals beyond propose vote makes voteAmong keptProposal fileProposalOf bestOf gradeAmong
     fileOf overlong maySupport supports hasGrade under prefixes candidates reading.longer longestOf longest weigh logAt messageBytes
     bytesOf part put numberAt numbersAt bytesFor bytesForEach isPrefix sameLog inStep namesOf countsOf
@@ -74,7 +74,7 @@ reading-then = 1 ∷ 0 ∷ 1 ∷ 1 ∷ 1 ∷ []
 pub sample-page : Shows (heldAt sampleRoll freshLists 13) (replicate 337 0) (slot 0 1 alone ++ (slot 1 0 nobody ++ reading-then))
 unfolding
     heldAfter callAt callsFrom numberIn openOf
-    beginOf receiveOf readOf malformed meaningIn choice.some actOf actedOf changed snappedOne snappedTwo settled candidateOf lockOf decisionOf fileMessage keptAgreement keptProposals agreementOf
+    beginOf receiveOf readOf malformed meaningIn choice.anyOf actOf actedOf changed snappedOne snappedTwo settled candidateOf lockOf decisionOf fileMessage keptAgreement keptProposals agreementOf
     proposalsOf withAgreement anyPlace beyondAgreement beyondProposals beyond propose vote makes voteAmong keptProposal fileProposalOf bestOf gradeAmong
     fileOf overlong maySupport supports hasGrade under prefixes candidates reading.longer longestOf longest weigh logAt messageBytes
     bytesOf part put numberAt numbersAt bytesFor bytesForEach isPrefix sameLog inStep namesOf countsOf

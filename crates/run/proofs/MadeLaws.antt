@@ -19,7 +19,7 @@ use Rattle.bench.specs.Acts.{outAfter}
 use Rattle.bench.specs.Record.{idle, beyond}
 use Rattle.bench.specs.ByRecord.{actedOf, actOf}
 use Rattle.bench.specs.Answers.{stateOf, startReply, contentMade, madeReply, OpenGives, ActGives}
-use Rattle.bench.specs.Steps.{Leaves}
+use Rattle.calls.specs.Steps.{Leaves}
 use Rattle.bench.specs.declared.Bench.{Bench}
 use Rattle.bench.specs.declared.Start.the-variants as starts
 use Rattle.bench.specs.declared.Made.{Made}

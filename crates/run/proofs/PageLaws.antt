@@ -19,7 +19,7 @@ use Rattle.bench.specs.Calendar.{Act}
 use Rattle.bench.specs.Calls.{refused, done, State}
 use Rattle.bench.specs.Answers.{stateOf, startReply, OpenGives}
 use Rattle.bench.specs.Readings.{ReadingGives}
-use Rattle.bench.specs.Steps.{Leaves}
+use Rattle.calls.specs.Steps.{Leaves}
 use Rattle.bench.specs.declared.Bench.{Bench}
 use Rattle.bench.specs.declared.Counted.{Counted}
 use Rattle.bench.specs.declared.Start.the-variants as starts

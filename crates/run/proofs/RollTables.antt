@@ -173,7 +173,7 @@ pub sample : textOf sampleRoll
     ≡ ascii "bench 0 of 1\nbegin 0 ok\nact proposal 1 0\nbegin 1 ok\nact log 1 0\nbegin 2 ok\nact none 0 0\nbegin 3 ok\nact none 0 0\nbegin 4 ok\nact none 0 0\nbegin 5 ok\nact log 1 0\nbegin 6 ok\nact none 0 1\n"
 unfolding
     textOf openedText firstLine linesOf lineFor replyText madeText digits misshapen misfits wrongMark rightBody callAt callsFrom numberIn openOf
-    beginOf receiveOf readOf malformed meaningIn choice.some actOf actedOf changed snappedOne snappedTwo settled candidateOf lockOf decisionOf fileMessage keptAgreement keptProposals agreementOf
+    beginOf receiveOf readOf malformed meaningIn choice.anyOf actOf actedOf changed snappedOne snappedTwo settled candidateOf lockOf decisionOf fileMessage keptAgreement keptProposals agreementOf
     proposalsOf withAgreement anyPlace beyondAgreement beyondProposals beyond propose vote makes voteAmong keptProposal fileProposalOf bestOf gradeAmong
     fileOf overlong maySupport supports hasGrade under prefixes candidates reading.longer longestOf longest weigh logAt messageBytes
     bytesOf part put numberAt numbersAt bytesFor bytesForEach isPrefix sameLog inStep namesOf countsOf

@@ -2,7 +2,7 @@
 ghost use mathlib.Core.Path.{_≡_};
 ghost use Prim.Native.Nat.{_≤_, _<_};
 ghost use Rattle.bench.specs.Answers.{stateOf};
-ghost use Rattle.bench.specs.Steps.{Leaves};
+ghost use Rattle.calls.specs.Steps.{Leaves};
 ghost use Rattle.run.specs.Roll.{eventsOf};
 ghost use Rattle.run.specs.RollSteps.{Shaped};
 ghost use Rattle.run.specs.Held.{heldAfter, firstCalls, bodyPlace};

@@ -5,7 +5,7 @@ use lib.Dec.{leb}
 use lib.ListN.{getD}
 use Rattle.agreement.specs.Limits.{mostSenders}
 use Rattle.agreement.specs.Sets.{member}
-use Rattle.bench.specs.Steps.{badProposalAt}
+use Rattle.calls.specs.Steps.{badProposalAt}
 use borrow.Author.Needs.{needs}
 use Rattle.calls.proofs.limits.has_bad_proposer.Statement.{statement}
 use Rattle.calls.proofs.limits.has_bad_proposer.Tie as tie

@@ -5,7 +5,7 @@ use lib.Dec.{leb}
 use lib.ListN.{getD}
 use Rattle.agreement.specs.Limits.{mostSenders}
 use Rattle.agreement.specs.Sets.{member}
-use Rattle.bench.specs.Steps.{badAt}
+use Rattle.calls.specs.Steps.{badAt}
 use borrow.Author.Needs.{needs}
 use Rattle.calls.proofs.limits.has_bad_sender.Statement.{statement}
 use Rattle.calls.proofs.limits.has_bad_sender.Tie as tie

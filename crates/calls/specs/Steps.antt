@@ -1,24 +1,22 @@
--- What the inner functions ask and promise: steps on the way to the definitions of ByRecord, which they do not add to. Assumes nothing.
-use Prim.Native.Nat.{ℕ, _+_, _≤_}
-use mathlib.Core.Bool.{Bool, false, not, _&&_, _||_}
+-- What the inner functions ask and promise: steps on the way to the definitions of bench's ByRecord, which they do not add to. Assumes nothing.
+use Prim.Native.Nat.{ℕ, _≤_}
+use mathlib.Core.Bool.{Bool, not, _&&_, _||_}
 use mathlib.Core.List.{List}
 use mathlib.Core.Option.{Option, some, none}
 use mathlib.Core.Path.{_≡_}
 use lib.Dec.{ltb}
-use lib.ListN.{length}
 use Rattle.message.specs.Limits.{mostBlocks, lastView}
 use Rattle.message.specs.Logs.{Block, Log}
 use Rattle.message.specs.Message.{Meaning}
 use Rattle.message.specs.Store.{logAt}
-use Rattle.bench.specs.Layout.{decidedPlace, mostBytes, shortLists}
 use Rattle.bench.specs.Calls.{acted, State, Step}
 use Rattle.bench.specs.Acts.{outAfter}
-use Rattle.bench.specs.Record.{beyond}
 use Rattle.bench.specs.ByRecord.{lockOf, seenOf, withMade}
 use Rattle.bench.specs.Answers.{stateOf}
+use Rattle.bench.specs.Tested.{Tested, Before}
 use Rattle.bench.specs.declared.Bench.{Bench}
-use Rattle.bench.specs.declared.Found.{Found}
-use Rattle.bench.specs.declared.Found.the-variants.{At, Nowhere}
+use Rattle.calls.specs.declared.seeing.Found.{Found}
+use Rattle.calls.specs.declared.seeing.Found.the-variants.{At, Nowhere}
 
 -- ---- 9 (Record: badSender, badProposer): one place of the arrays, by what stands there; `above` where its number is n or above
 
@@ -36,28 +34,12 @@ badAt blocks above v e one two =
 abbrev pub badProposalAt : ℕ → Bool → Bool → Bool → Bool
 badProposalAt blocks above filed aside = ltb mostBlocks blocks || ((above && filed) || (above && aside))
 
--- ---- what is tested before anything is done
-
--- neither 9 nor 8 is to be given
-pub record Usable (s : State) : Type 0 where
-  pub limits : beyond (s .bench) ≡ false
-  pub lists : shortLists (s .lent) ≡ false
-
--- and, by an Act, not 11
-pub record Tested (s : State) (out : List ℕ) : Type 0 where
-  pub usable : Usable s
-  pub room : ltb (length out) mostBytes ≡ false
-
 -- ---- a log in the lists
 
 -- the k blocks from place a on, or none
 abbrev pub foundLog : List ℕ → List ℕ → Found → Option Log
 foundLog names counts Nowhere = none
 foundLog names counts (At a k) = some (logAt names counts a k)
-
--- they end before the decided log's place
-abbrev pub Before : ℕ → ℕ → Type 0
-Before a k = (a + k ≤ decidedPlace) × (k ≤ mostBlocks)
 
 abbrev pub FoundBefore : Found → Type 0
 FoundBefore Nowhere = Unit {0}

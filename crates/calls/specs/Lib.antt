@@ -1,0 +1,2 @@
+-- What inner functions ask and promise; no reader needs these:
+pub mod Steps
