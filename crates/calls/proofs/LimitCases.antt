@@ -9,7 +9,13 @@ use borrow.Author.Tests.{lt-ltb, le-ltb}
 use Rattle.message.proofs.TestLaws.{or-true, or-no}
 use Rattle.agreement.specs.Sets.{share, count}
 use Rattle.agreement.proofs.CountLaws.{count-none, count-next}
-use Rattle.bench.specs.Record.{anyPlace}
+use Rattle.agreement.specs.declared.Agreement.{Agreement}
+use Rattle.agreement.specs.declared.Proposals.{Proposals}
+use Rattle.message.specs.Limits.{mostBlocks, lastView}
+use Rattle.bench.specs.Layout.{outOfRange}
+use Rattle.bench.specs.Calendar.{lastBeat}
+use Rattle.bench.specs.Record.{anyPlace, badSender, badProposer, beyondAgreement, beyondProposals, beyond}
+use Rattle.bench.specs.declared.Bench.{Bench}
 
 -- some of the first i places passes the test
 unfoldable pub anyBelow : ℕ → (ℕ → Bool) → Bool
@@ -34,3 +40,20 @@ one-more p bad t i e h =
 pub all-below : (p : ℕ → Bool) (bad : Bool) (i : ℕ) → bad ≡ anyBelow i p → i ≤ mostSenders → mostSenders ≤ i → bad ≡ anyPlace p
 unfolding anyBelow anyPlace
 all-below p bad i e l g = let s : i ≡ mostSenders = omega arith in e ∙ ap (λ (k : ℕ). ltb 0 (count k p)) s
+
+-- ---- the causes together
+
+pub beyond-agreement : (n : ℕ) (g : Agreement) (bad : Bool) → bad ≡ anyPlace (badSender n g) → (ltb lastView (g .view) || bad) ≡ beyondAgreement n g
+unfolding beyondAgreement
+beyond-agreement n g bad e = rw e
+
+pub beyond-proposals :
+    (n : ℕ) (g : Proposals) (bad : Bool) → bad ≡ anyPlace (badProposer n g) → (ltb lastView (g .view) || bad) ≡ beyondProposals n g
+unfolding beyondProposals
+beyond-proposals n g bad e = rw e
+
+pub beyond-limits : (b : Bench) (range even odd proposals : Bool) → range ≡ outOfRange (b .n) (b .own) → even ≡ beyondAgreement (b .n) (b .even)
+    → odd ≡ beyondAgreement (b .n) (b .odd) → proposals ≡ beyondProposals (b .n) (b .proposals)
+    → (range || (ltb (lastBeat + 1) (b .next) || (ltb mostBlocks (b .decided) || (even || (odd || proposals))))) ≡ beyond b
+unfolding beyond
+beyond-limits b range even odd proposals e f g h = rw (e, f, g, h)

@@ -1,5 +1,5 @@
 -- The record's parts, case by case, as the code finds them. Assumes nothing.
-use Prim.Native.Nat.{ℕ, _-_}
+use Prim.Native.Nat.{ℕ, _+_, _-_}
 use mathlib.Core.Bool.{Bool, true, false}
 use mathlib.Core.Path.{_≡_, refl}
 use Rattle.agreement.specs.Limits.{span}
@@ -10,9 +10,31 @@ use Rattle.agreement.specs.declared.Proposals.{Proposals}
 use borrow.Author.Tests.{eq-eqb, ne-eqb}
 use Rattle.bench.specs.Layout.{isEven, logsPlace}
 use Rattle.bench.specs.Calendar.{logsShut, proposalsShut}
-use Rattle.bench.specs.Record.{ofView, agreementOf, proposalsOf, withEven, withOdd, withAgreement}
-use Rattle.bench.specs.ByRecord.{keptAgreement, keptProposals}
+use Rattle.bench.specs.Record.{freshBench, ofView, agreementOf, proposalsOf, withEven, withOdd, withAgreement}
+use Rattle.bench.specs.ByRecord.{keptAgreement, keptProposals, begunBench}
 use Rattle.bench.specs.declared.Bench.{Bench}
+
+-- ---- the record whole
+
+module _ (even odd : Agreement) (proposals : Proposals) where
+  pub fresh-is : (n own : ℕ) → even ≡ emptyAgreement 0 → odd ≡ emptyAgreement 0 → proposals ≡ emptyProposals 0
+      → record { n = n; own = own; next = 0; gathering = false; even = even; odd = odd; proposals = proposals; decided = 0; parted = false } ≡ freshBench n own
+  fresh-is n own e f g = rw (e, f, g)
+
+  pub begun-is : (b : Bench) (beat : ℕ) → even ≡ keptAgreement beat (b .even) → odd ≡ keptAgreement beat (b .odd)
+      → proposals ≡ keptProposals beat (b .proposals)
+      → record {
+        n = b .n;
+        own = b .own;
+        next = beat + 1;
+        gathering = true;
+        even = even;
+        odd = odd;
+        proposals = proposals;
+        decided = b .decided;
+        parted = b .parted;
+      } ≡ begunBench b beat
+  begun-is b beat e f g = rw (e, f, g)
 
 -- ---- by the view of what is filed
 

@@ -1,3 +1,4 @@
+use Rattle.calls.proofs.RecordCases.{begun-is}
 use borrow.Author.Needs.{needs}
 use Rattle.calls.proofs.beginning.begun.Statement.{statement}
 use Rattle.calls.proofs.beginning.begun.Tie as tie
@@ -15,7 +16,7 @@ add-t6 : tie.Need-add-t6
 add-t6 c = search needs
 
 returns : tie.Need-returns
-returns c = cc
+returns c = search begun-is
 
 pub begun-spec : {M : Type 1} → statement M
 begun-spec =

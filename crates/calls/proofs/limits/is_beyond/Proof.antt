@@ -1,4 +1,4 @@
-use Rattle.bench.specs.Record.{beyond}
+use Rattle.calls.proofs.LimitCases.{beyond-limits}
 use borrow.Author.Needs.{needs}
 use Rattle.calls.proofs.limits.is_beyond.Statement.{statement}
 use Rattle.calls.proofs.limits.is_beyond.Tie as tie
@@ -22,8 +22,7 @@ is-beyond-proposals-requires : tie.Need-is-beyond-proposals-requires
 is-beyond-proposals-requires c κs = search needs
 
 returns : tie.Need-returns
-unfolding beyond
-returns c = cc
+returns c = search beyond-limits
 
 pub is-beyond-spec : {M : Type 1} → statement M
 is-beyond-spec =

@@ -1,4 +1,4 @@
-use Rattle.bench.specs.Record.{beyondProposals}
+use Rattle.calls.proofs.LimitCases.{beyond-proposals}
 use borrow.Author.Needs.{needs}
 use Rattle.calls.proofs.limits.is_beyond_proposals.Statement.{statement}
 use Rattle.calls.proofs.limits.is_beyond_proposals.Tie as tie
@@ -7,8 +7,7 @@ has-bad-proposer-requires : tie.Need-has-bad-proposer-requires
 has-bad-proposer-requires c κs = search needs
 
 returns : tie.Need-returns
-unfolding beyondProposals
-returns c = cc
+returns c = search beyond-proposals
 
 pub is-beyond-proposals-spec : {M : Type 1} → statement M
 is-beyond-proposals-spec = tie.close (tie.spec has-bad-proposer-requires returns)

@@ -1,3 +1,4 @@
+use Rattle.calls.proofs.RecordCases.{fresh-is}
 use borrow.Author.Needs.{needs}
 use Rattle.calls.proofs.record.fresh.Statement.{statement}
 use Rattle.calls.proofs.record.fresh.Tie as tie
@@ -12,7 +13,7 @@ empty-requires-3 : tie.Need-empty-requires-3
 empty-requires-3 c κs = search needs
 
 returns : tie.Need-returns
-returns c = cc
+returns c = search fresh-is
 
 pub fresh-spec : {M : Type 1} → statement M
 fresh-spec = tie.close (tie.spec empty-requires empty-requires-2 empty-requires-3 returns)
