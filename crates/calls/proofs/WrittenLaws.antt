@@ -18,21 +18,16 @@ use Rattle.message.proofs.LogLaws.{names-append, counts-append, names-one, coun
 use Rattle.message.proofs.ListedLaws.{length-at, names-at, counts-at}
 use Rattle.message.proofs.WrittenFields.{length-message}
 use Rattle.message.proofs.Inside.{room-yes, written-inside, count-made, same-count, same-holds, same-log, content-made, priority-made}
-use Rattle.agreement.specs.Filing.{Files, fileOf}
-use Rattle.agreement.specs.Proposals.{FilesProposal, fileProposalOf}
-use Rattle.agreement.specs.declared.Agreement.{Agreement}
-use Rattle.agreement.specs.declared.Filed.{Filed}
-use Rattle.agreement.specs.declared.FiledProposal.{FiledProposal}
-use Rattle.agreement.specs.declared.Proposals.{Proposals}
 use Rattle.agreement.proofs.BytesLaws.{same-filed, same-proposal-filed}
 use Rattle.bench.specs.Layout.{logsPlace, proposalsPlace}
 use Rattle.bench.specs.Calls.{acted, State}
-use Rattle.bench.specs.Record.{agreementOf, proposalsOf, withAgreement, withProposals}
-use Rattle.bench.specs.ByRecord.{Outcome, logOutcome, proposalOutcome, fileLog, fileProposal, fileMessage}
-use Rattle.bench.specs.Answers.{stateOf, contentMade, madeReply, ActGives}
-use Rattle.calls.specs.Steps.{Making, madeStep, Leaves}
+use Rattle.bench.specs.Record.{agreementOf, proposalsOf}
+use Rattle.bench.specs.ByRecord.{Outcome, logOutcome, proposalOutcome, fileLog, fileProposal, fileMessage, taken}
+use Rattle.bench.specs.Answers.{stateOf, contentMade, madeReply, ReceiveGives, ActGives}
+use Rattle.calls.specs.Steps.{Making, madeStep}
 use Rattle.bench.specs.declared.Bench.{Bench}
 use Rattle.bench.specs.declared.Made.{Made}
+use Rattle.bench.specs.declared.Received.{Received}
 use Rattle.bench.specs.declared.Made.the-variants as makings
 use Rattle.bench.proofs.TestedLaws.{before-within, long-out}
 
@@ -105,9 +100,9 @@ proposal-reply out m priority k w h e =
 
 -- ---- written, filed from the buffer and answered
 
-module _ (s : State) (out : List ℕ) (m : Meaning) (w : Makeable out m) (a : Made) (o : List ℕ) (c : Bench) (ns cs : List ℕ) where
-  made-acts : o ≡ put out 0 (bytesOf m) → madeReply (put out 0 (bytesOf m)) a ≡ acted (some m) → Leaves (fileMessage s o m .held) c ns cs
-      → ActGives (madeStep s out m) (record { answer = a; bench = c }) ns cs o
+module _ (s : State) (out : List ℕ) (m : Meaning) (w : Makeable out m) (a : Made) (o : List ℕ) (f : Received) (ns cs : List ℕ) where
+  made-acts : o ≡ put out 0 (bytesOf m) → madeReply (put out 0 (bytesOf m)) a ≡ acted (some m) → ReceiveGives (taken (fileMessage s o m)) f ns cs
+      → ActGives (madeStep s out m) (record { answer = a; bench = f .bench }) ns cs o
   made-acts e q r =
       let x : fileMessage s o m ≡ fileMessage s (bytesOf m) m = ap (λ (l : List ℕ). fileMessage s l m) e ∙ filed-same out m w s in
       record {
@@ -117,23 +112,6 @@ module _ (s : State) (out : List ℕ) (m : Meaning) (w : Makeable out m) (a : Ma
         countList = r .countList ∙ ap (λ (y : Outcome). y .held .lent .counts) x;
         buffer = e;
       }
-
--- ---- filed as one's own
-
-module _ (b : Bench) (names counts bytes : List ℕ) (v : ℕ) (ns cs : List ℕ) where
-  pub own-log : (g : Agreement) (base : ℕ) (f : Filed) (c : Bench) → g ≡ agreementOf b v → base ≡ logsPlace v
-      → Files (fileOf g names counts base bytes (b .own)) f ns cs → c ≡ withAgreement b v (f .agreement)
-      → Leaves (fileLog (stateOf b names counts) bytes v (b .own) .held) c ns cs
-  own-log g base f c h k d x =
-      let t : Files (fileOf (agreementOf b v) names counts (logsPlace v) bytes (b .own)) f ns cs = rw (← h, ← k) d in
-      record { bench = x ∙ ap (withAgreement b v) (t .agreement); nameList = t .nameList; countList = t .countList }
-
-  pub own-proposal : (priority : ℕ) (g : Proposals) (f : FiledProposal) → g ≡ proposalsOf b v
-      → FilesProposal (fileProposalOf g names counts proposalsPlace bytes (b .own) priority) f ns cs
-      → Leaves (fileProposal (stateOf b names counts) bytes v (b .own) priority .held) (withProposals b (f .proposals)) ns cs
-  own-proposal priority g f h d =
-      let t : FilesProposal (fileProposalOf (proposalsOf b v) names counts proposalsPlace bytes (b .own) priority) f ns cs = rw (← h) d in
-      record { bench = ap (withProposals b) (t .proposals); nameList = t .nameList; countList = t .countList }
 
 -- ---- the LOG and the PROPOSAL of the blocks at a place
 
@@ -149,25 +127,25 @@ module _ (b : Bench) (names counts out : List ℕ) (v a k : ℕ) (hn : (i : ℕ)
   counts-fit = subst (AllBelow (2 ^ 16)) (sym (counts-at names counts a k)) (part-below (2 ^ 16) counts a k (λ i. hc i .fits))
 
   pub log-acts : Making (stateOf b names counts) out v a k → Writes (writeLogOf out names counts a k (b .own) v) r o
-      → (c : Bench) → Leaves (fileLog (stateOf b names counts) o v (b .own) .held) c ns cs
-      → ActGives (madeStep (stateOf b names counts) out (logFrom names counts a k (b .own) v)) (record { answer = makings.Log k; bench = c }) ns cs o
+      → (f : Received) → ReceiveGives (taken (fileLog (stateOf b names counts) o v (b .own))) f ns cs
+      → ActGives (madeStep (stateOf b names counts) out (logFrom names counts a k (b .own) v)) (record { answer = makings.Log k; bench = f .bench }) ns cs o
   unfolding fileMessage
-  log-acts p x c y =
+  log-acts p x f y =
       let m : Content = record { sender = b .own; view = v; log = L } in
       let l = length-at names counts a k in
       let few = p .before .1 in
       let w = makeable p (logMessage m) (omega arith) refl names-fit counts-fit in
       let e = written-inside (roomFor out names counts a k k) out (logMessage m) r o (made-room p k few) x .1 in
-      made-acts (stateOf b names counts) out (logMessage m) w (makings.Log k) o c ns cs e (log-reply out m k w l) y
+      made-acts (stateOf b names counts) out (logMessage m) w (makings.Log k) o f ns cs e (log-reply out m k w l) y
 
   pub proposal-acts : (name count priority : ℕ) → Fits w64 name → Fits w16 count → Fits w64 priority
       → (Making (stateOf b names counts) out v a k) × (k < mostBlocks)
       → Writes (writeProposalOf out names counts a k (record { name = name; count = count }) (b .own) v priority) r o
-      → (c : Bench) → Leaves (fileProposal (stateOf b names counts) o v (b .own) priority .held) c ns cs
+      → (f : Received) → ReceiveGives (taken (fileProposal (stateOf b names counts) o v (b .own) priority)) f ns cs
       → ActGives (madeStep (stateOf b names counts) out (proposalFrom names counts a k (record { name = name; count = count }) (b .own) v priority))
-      (record { answer = makings.Proposal (k + 1); bench = c }) ns cs o
+      (record { answer = makings.Proposal (k + 1); bench = f .bench }) ns cs o
   unfolding fileMessage
-  proposal-acts name count priority tn tc tp (p, h) x c y =
+  proposal-acts name count priority tn tc tp (p, h) x f y =
       let block : Block = record { name = name; count = count } in
       let m : Content = record { sender = b .own; view = v; log = L ++ (block ∷ []) } in
       let l : length (L ++ (block ∷ [])) ≡ k + 1 = length-append L (block ∷ []) ∙ ap (λ (j : ℕ). j + 1) (length-at names counts a k) in
@@ -179,5 +157,5 @@ module _ (b : Bench) (names counts out : List ℕ) (v a k : ℕ) (hn : (i : ℕ)
       (append-below (2 ^ 16) (countsOf L) (countsOf (block ∷ [])) counts-fit
       (subst (AllBelow (2 ^ 16)) (sym (counts-one block)) (one-below (2 ^ 16) count (tc .fits))))) in
       let e = written-inside (roomFor out names counts a k (k + 1)) out (proposalMessage m priority) r o (made-room p (k + 1) (omega arith)) x .1 in
-      made-acts (stateOf b names counts) out (proposalMessage m priority) w (makings.Proposal (k + 1)) o c ns cs e
+      made-acts (stateOf b names counts) out (proposalMessage m priority) w (makings.Proposal (k + 1)) o f ns cs e
       (proposal-reply out m priority (k + 1) w (tp .fits) l) y

@@ -32,7 +32,7 @@ fn word(answer: Answer) -> Taken
 }
 
 // The LOG in the bytes, from this sender, in the agreement of view v. Each slot has its own branch, which copies that slot alone.
-fn file_log(
+pub(crate) fn file_log(
     b: Bench,
     names: &mut [u64],
     counts: &mut [u16],
@@ -67,7 +67,7 @@ fn file_log(
 }
 
 // The PROPOSAL in the bytes, from this sender and of this priority, among the proposals of view v.
-fn file_proposal(
+pub(crate) fn file_proposal(
     b: Bench,
     names: &mut [u64],
     counts: &mut [u16],

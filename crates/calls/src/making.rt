@@ -3,14 +3,12 @@ ghost use Prim.Native.Nat.{_<_};
 ghost use Rattle.message.specs.Limits.{mostBlocks};
 ghost use Rattle.message.specs.Store.{logFrom, proposalFrom};
 ghost use Rattle.bench.specs.Calendar.{proposing, voting};
-ghost use Rattle.bench.specs.ByRecord.{fileLog, fileProposal, actedOf};
+ghost use Rattle.bench.specs.ByRecord.{actedOf};
 ghost use Rattle.bench.specs.Answers.{stateOf, ActGives};
 ghost use Rattle.bench.specs.Tested.{Tested};
-ghost use Rattle.calls.specs.Steps.{Making, Leaves, madeStep, noBlock};
-use super::record::agreement_of;
-use super::record::logs_place;
-use super::record::proposals_of;
-use super::record::with_agreement;
+ghost use Rattle.calls.specs.Steps.{Making, madeStep, noBlock};
+use super::filing::file_log;
+use super::filing::file_proposal;
 use super::seeing::Found;
 use super::seeing::ballot;
 use super::seeing::candidate;
@@ -19,40 +17,10 @@ use agreement::Grade;
 use bench::Acted;
 use bench::Bench;
 use bench::Made;
-use bench::PROPOSALS_PLACE;
 use message::LAST_VIEW;
 use message::MOST_BLOCKS;
 use message::writer::write_log;
 use message::writer::write_proposal;
-
-// The LOG of view v in the bytes, filed as one's own.
-fn file_own_log(b: Bench, names: &mut [u64], counts: &mut [u16], bytes: &[u8], v: u32) -> Bench
-    ensures { λ r. ⌜ Leaves ((fileLog (stateOf b (now (names .entry)) (now (counts .entry))) (now (bytes .entry)) v (b .own)) .held) r (now (names .exit)) (now (counts .exit)) ⌝ }
-{
-    let g = agreement_of(b, v);
-    let f = agreement::filing::file(g, names, counts, logs_place(v), bytes, b.own);
-    let filed = f.agreement;
-    with_agreement(b, v, filed)
-}
-
-// The PROPOSAL in the bytes, of this priority.
-fn file_own_proposal(
-    b: Bench,
-    names: &mut [u64],
-    counts: &mut [u16],
-    bytes: &[u8],
-    v: u32,
-    priority: u64,
-) -> Bench
-    ensures { λ r. ⌜ Leaves ((fileProposal (stateOf b (now (names .entry)) (now (counts .entry))) (now (bytes .entry)) v (b .own) priority) .held) r (now (names .exit)) (now (counts .exit)) ⌝ }
-{
-    let g = proposals_of(b, v);
-    let f = agreement::proposing::file(g, names, counts, PROPOSALS_PLACE, bytes, b.own, priority);
-    let filed = f.proposals;
-    let mut c = b;
-    c.proposals = filed;
-    c
-}
 
 // The LOG of view v of the blocks at place `at`.
 fn make_log(
@@ -70,7 +38,8 @@ fn make_log(
 {
     let own = b.own;
     write_log(out, names, counts, at, blocks as usize, own, v);
-    let bench = file_own_log(b, names, counts, out, v);
+    let filed = file_log(b, names, counts, out, v, own);
+    let bench = filed.bench;
     Acted {
         answer: Made::Log(blocks),
         bench,
@@ -107,7 +76,8 @@ fn make_proposal(
         v,
         priority,
     );
-    let bench = file_own_proposal(b, names, counts, out, v, priority);
+    let filed = file_proposal(b, names, counts, out, v, own, priority);
+    let bench = filed.bench;
     Acted {
         answer: Made::Proposal(blocks + 1),
         bench,

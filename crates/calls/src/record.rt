@@ -1,7 +1,7 @@
 // The record: fresh, and the agreement and the proposals of a view in it.
 ghost use mathlib.Core.Path.{_≡_};
 ghost use Rattle.bench.specs.Layout.{isEven, logsPlace};
-ghost use Rattle.bench.specs.Record.{freshBench, ofView, agreementOf, proposalsOf, beatOf, notAboveLast, idle, withAgreement};
+ghost use Rattle.bench.specs.Record.{freshBench, ofView, agreementOf, proposalsOf, beatOf, notAboveLast, idle};
 use agreement::Agreement;
 use agreement::Proposals;
 use bench::Bench;
@@ -92,16 +92,4 @@ pub(crate) fn proposals_of(b: Bench, v: u32) -> Proposals
         return g;
     }
     agreement::proposing::empty(v)
-}
-
-pub(crate) fn with_agreement(b: Bench, v: u32, g: Agreement) -> Bench
-    ensures { λ r. ⌜ r ≡ withAgreement b v g ⌝ }
-{
-    let mut c = b;
-    if is_even(v) {
-        c.even = g;
-        return c;
-    }
-    c.odd = g;
-    c
 }

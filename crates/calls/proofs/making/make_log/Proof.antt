@@ -4,14 +4,14 @@ use Rattle.calls.proofs.making.make_log.Statement.{statement}
 use Rattle.calls.proofs.making.make_log.Tie as tie
 use Rattle.calls.proofs.making.make_log.Reads as reads
 use Rattle.calls.proofs.making.make_log.Lts as lts
-use Rattle.calls.proofs.making.file_own_log.Reads as file-own-log-reads
+use Rattle.calls.proofs.filing.file_log.Reads as file-log-reads
 use Rattle.message.proofs.writer.write_log.Reads as write-log-reads
 
 write-log-requires : tie.Need-write-log-requires
 write-log-requires c κs = search needs
 
-file-own-log-requires : tie.Need-file-own-log-requires
-file-own-log-requires c κs = search needs
+file-log-requires : tie.Need-file-log-requires
+file-log-requires c κs = search needs
 
 same-length : tie.Need-same-length
 same-length c = search needs
@@ -30,7 +30,7 @@ make-log-spec =
     tie.close
     (tie.spec
     write-log-requires
-    file-own-log-requires
+    file-log-requires
     same-length
     same-length-2
     same-length-3

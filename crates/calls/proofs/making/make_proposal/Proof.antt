@@ -4,17 +4,17 @@ use Rattle.calls.proofs.making.make_proposal.Statement.{statement}
 use Rattle.calls.proofs.making.make_proposal.Tie as tie
 use Rattle.calls.proofs.making.make_proposal.Reads as reads
 use Rattle.calls.proofs.making.make_proposal.Lts as lts
-use Rattle.calls.proofs.making.file_own_proposal.Reads as file-own-proposal-reads
+use Rattle.calls.proofs.filing.file_proposal.Reads as file-proposal-reads
 use Rattle.message.proofs.writer.write_proposal.Reads as write-proposal-reads
 
 write-proposal-requires : tie.Need-write-proposal-requires
 write-proposal-requires c κs = search needs
 
-file-own-proposal-requires : tie.Need-file-own-proposal-requires
-file-own-proposal-requires c κs = search needs
+file-proposal-requires : tie.Need-file-proposal-requires
+file-proposal-requires c κs = search needs
 
-add-t27 : tie.Need-add-t27
-add-t27 c = search needs
+add-t28 : tie.Need-add-t28
+add-t28 c = search needs
 
 same-length : tie.Need-same-length
 same-length c = search needs
@@ -33,8 +33,8 @@ make-proposal-spec =
     tie.close
     (tie.spec
     write-proposal-requires
-    file-own-proposal-requires
-    add-t27
+    file-proposal-requires
+    add-t28
     same-length
     same-length-2
     same-length-3
