@@ -1,13 +1,14 @@
 // The static library: the three functions of a roll that C or Rust may call, each the function of the crate run with its contract.
-// Nothing checks what C hands over: every pointer must be valid for its length and aligned for its type, and no two of the buffers
-// may overlap. With buffers that overlap a function may write outside them.
+// Nothing tests what C hands over, so at each signature stands what C must keep to: a pointer is valid for as many elements as the
+// length behind it says, and aligned for them; and no two of the buffers overlap. Where they do, a function may write outside them.
 ghost use Rattle.bench.specs.Answers.{lentAs};
 ghost use Rattle.run.specs.RollText.{WritesText};
 ghost use Rattle.run.specs.Held.{heldAt};
 ghost use Rattle.run.specs.Page.{noPage, GivesPage};
 ghost use Rattle.run.specs.MadeBytes.{madeOf, GivesMade};
 
-// In C: size_t cervakho_roll_text(const uint8_t *roll, size_t roll_length, uint8_t *text, size_t text_length).
+// The text of a roll. In C: size_t cervakho_roll_text(const uint8_t *roll, size_t roll_length, uint8_t *text, size_t text_length).
+// Both valid for their lengths; roll and text apart.
 #[no_mangle]
 pub extern "C" fn cervakho_roll_text(roll: &[u8], text: &mut [u8]) -> usize
     ensures { λ r. ⌜ WritesText (now (roll .entry)) (now (text .entry)) r (now (text .exit)) ⌝ }
@@ -15,8 +16,9 @@ pub extern "C" fn cervakho_roll_text(roll: &[u8], text: &mut [u8]) -> usize
     run::roll_text(roll, text)
 }
 
-// In C: size_t cervakho_roll_page(const uint8_t *roll, size_t roll_length, size_t calls, uint64_t *names, size_t names_length,
-// uint16_t *counts, size_t counts_length, uint8_t *page, size_t page_length).
+// What the bench holds after some of a roll's calls. In C: size_t cervakho_roll_page(const uint8_t *roll, size_t roll_length, size_t
+// calls, uint64_t *names, size_t names_length, uint16_t *counts, size_t counts_length, uint8_t *page, size_t page_length). All valid
+// for their lengths, names and counts aligned; roll, names, counts and page apart.
 #[no_mangle]
 pub extern "C" fn cervakho_roll_page(
     roll: &[u8],
@@ -30,7 +32,8 @@ pub extern "C" fn cervakho_roll_page(
     run::roll_page(roll, calls, names, counts, page)
 }
 
-// In C: size_t cervakho_roll_made(const uint8_t *roll, size_t roll_length, size_t event, uint8_t *out, size_t out_length).
+// The message that an act of a roll made. In C: size_t cervakho_roll_made(const uint8_t *roll, size_t roll_length, size_t event,
+// uint8_t *out, size_t out_length). Both valid for their lengths; roll and out apart.
 #[no_mangle]
 pub extern "C" fn cervakho_roll_made(roll: &[u8], event: usize, out: &mut [u8]) -> usize
     ensures { λ r. ⌜ GivesMade (madeOf (now (roll .entry)) event (now (out .entry))) (now (out .entry)) r (now (out .exit)) ⌝ }
