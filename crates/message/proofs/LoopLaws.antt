@@ -6,42 +6,43 @@ use mathlib.Core.Path.{_≡_, refl, sym, ap, _∙_}
 use mathlib.Core.List.{List, _∷_}
 use mathlib.Core.Bool.{Bool, true, false, _||_}
 use lib.Dec.{leb, eqb}
-use lib.ListN.{getD, set}
+use native.Mathlib.Nat.{mul-suc}
+use lib.ListN.{length, getD, set, length-set}
 use borrow.Author.Tests.{le-leb, lt-leb, leb-true, leb-false}
 use lib.Seq.{getD-set-other}
+use Rattle.message.specs.Limits.{nameWidth, countWidth}
 use Rattle.message.specs.Choice.{anyOf}
 use Rattle.message.specs.Message.{anyZero}
 use Rattle.message.specs.Numbers.{part, put, numberAt, numbersAt, bytesFor, bytesForEach}
-use Rattle.message.proofs.PartLaws.{put-append}
-use Rattle.message.proofs.NumberLaws.{length-bytes}
+use Rattle.message.specs.Asks.{BlocksFit, withBlocks}
+use Rattle.message.proofs.PartLaws.{length-part, put-append, put-swap}
+use Rattle.message.proofs.NumberLaws.{length-bytes, length-bytes-each}
 
 -- ---- numbers by their bytes
-
-at-place : (s : List ℕ) (a b : ℕ) → a ≡ b → getD s a 0 ≡ getD s b 0
-at-place s a b e = ap (λ (i : ℕ). getD s i 0) e
 
 pub two-bytes : (s : List ℕ) (a x y : ℕ) → x ≡ getD s a 0 → y ≡ getD s (a + 1) 0 → x + y * 256 ≡ numberAt 2 s a
 unfolding numberAt
 two-bytes s a x y e f = omega arith
 
-pub four-bytes : (s : List ℕ) (a x y z w : ℕ) → x ≡ getD s a 0 → y ≡ getD s (a + 1) 0 → z ≡ getD s (a + 2) 0 → w ≡ getD s (a + 3) 0
-    → x + y * 256 + z * 65536 + w * 16777216 ≡ numberAt 4 s a
+-- two bytes and the w after them
+two-and : (w : ℕ) (s : List ℕ) (a : ℕ) → numberAt 2 s a + numberAt w s (a + 2) * 65536 ≡ numberAt (suc (suc w)) s a
 unfolding numberAt
-four-bytes s a x y z w e₀ e₁ e₂ e₃ =
-    let f = at-place s (a + 1 + 1) (a + 2) (omega arith) in
-    let g = at-place s (a + 1 + 1 + 1) (a + 3) (omega arith) in
-    omega arith
-
--- four bytes and the w after them
-number-halves : (w : ℕ) (s : List ℕ) (a : ℕ) → numberAt 4 s a + numberAt w s (a + 4) * 4294967296 ≡ numberAt (suc (suc (suc (suc w)))) s a
-unfolding numberAt
-number-halves w s a =
-    let e : a + 1 + 1 + 1 + 1 ≡ a + 4 = omega arith in
+two-and w s a =
+    let e : a + 1 + 1 ≡ a + 2 = omega arith in
     let f = ap (numberAt w s) e in
     omega arith
 
+pub four-bytes : (s : List ℕ) (a x y : ℕ) → x ≡ numberAt 2 s a → y ≡ numberAt 2 s (a + 2) → x + y * 65536 ≡ numberAt 4 s a
+four-bytes s a x y e f = let h = two-and 2 s a in omega arith
+
 pub eight-bytes : (s : List ℕ) (a x y : ℕ) → x ≡ numberAt 4 s a → y ≡ numberAt 4 s (a + 4) → x + y * 4294967296 ≡ numberAt 8 s a
-eight-bytes s a x y e f = let h = number-halves 4 s a in omega arith
+eight-bytes s a x y e f =
+    let h = two-and 2 s a in
+    let i = two-and 4 s (a + 2) in
+    let j = two-and 6 s a in
+    let p : a + 2 + 2 ≡ a + 4 = omega arith in
+    let q = ap (numberAt 4 s) p in
+    omega arith
 
 -- ---- a range
 
@@ -98,53 +99,105 @@ module _ (w : ℕ) (z b : Bool) (s : List ℕ) (p left : ℕ) (e : z ≡ (b || a
       let l : left ≡ 0 = omega arith in
       or-last b ∙ sym (e ∙ ap (λ (k : ℕ). b || anyZero (numbersAt w s p k)) l)
 
--- ---- writing numbers, w bytes each
+-- ---- writing blocks: the names from byte p on, the counts from byte q on
 
-put-number-step : (w : ℕ) (l ns : List ℕ) (p q left : ℕ) → 0 < left
-    → put l p (bytesForEach w (part ns q left)) ≡ put (put l p (bytesFor w (getD ns q 0))) (p + w) (bytesForEach w (part ns (q + 1) (left - 1)))
+pub put-both : (l o o′ : List ℕ) (p q : ℕ) (xs ys : List ℕ) → o ≡ put l p xs → o′ ≡ put o q ys → o′ ≡ put (put l p xs) q ys
+put-both l o o′ p q xs ys e f = f ∙ ap (λ (t : List ℕ). put t q ys) e
+
+put-number-step : (w : ℕ) (l ns : List ℕ) (p a k : ℕ) → 0 < k
+    → put l p (bytesForEach w (part ns a k)) ≡ put (put l p (bytesFor w (getD ns a 0))) (p + w) (bytesForEach w (part ns (a + 1) (k - 1)))
 unfolding part bytesForEach
-put-number-step w l ns p q left h =
-    let e : left ≡ suc (left - 1) = omega arith in
-    ap (λ (k : ℕ). put l p (bytesForEach w (part ns q k))) e
-    ∙ put-append l p (bytesFor w (getD ns q 0)) (bytesForEach w (part ns (q + 1) (left - 1)))
-    ∙ ap (λ (k : ℕ). put (put l p (bytesFor w (getD ns q 0))) (p + k) (bytesForEach w (part ns (q + 1) (left - 1)))) (length-bytes w (getD ns q 0))
+put-number-step w l ns p a k h =
+    let e : k ≡ suc (k - 1) = omega arith in
+    ap (λ (j : ℕ). put l p (bytesForEach w (part ns a j))) e
+    ∙ put-append l p (bytesFor w (getD ns a 0)) (bytesForEach w (part ns (a + 1) (k - 1)))
+    ∙ ap (λ (j : ℕ). put (put l p (bytesFor w (getD ns a 0))) (p + j) (bytesForEach w (part ns (a + 1) (k - 1)))) (length-bytes w (getD ns a 0))
 
-pub put-numbers-next : (w : ℕ) (z l m ns : List ℕ) (p q left : ℕ) → z ≡ put l p (bytesForEach w (part ns q left)) → 0 < left → m ≡ put l p (bytesFor w (getD ns q 0))
-    → z ≡ put m (p + w) (bytesForEach w (part ns (q + 1) (left - 1)))
-put-numbers-next w z l m ns p q left i h e = i ∙ put-number-step w l ns p q left h ∙ rw e
+-- z is the buffer with all of them, o with the first
+module _ (z l names counts : List ℕ) (p q a k : ℕ) (e : z ≡ withBlocks l names counts p q a k) where
+  pub blocks-next : (o : List ℕ) → BlocksFit l names counts p q a k → 0 < k → o ≡ put (put l p (bytesFor nameWidth (getD names a 0))) q (bytesFor countWidth (getD counts a 0))
+      → z ≡ withBlocks o names counts (p + nameWidth) (q + countWidth) (a + 1) (k - 1)
+  blocks-next o f h m =
+      let n = put l p (bytesFor nameWidth (getD names a 0)) in
+      let ns = bytesForEach nameWidth (part names (a + 1) (k - 1)) in
+      let c = bytesFor countWidth (getD counts a 0) in
+      let cs = bytesForEach countWidth (part counts (a + 1) (k - 1)) in
+      let b = f .before in
+      let r : length ns ≡ nameWidth * (k - 1) = length-bytes-each nameWidth (part names (a + 1) (k - 1)) ∙ ap (λ (j : ℕ). nameWidth * j) (length-part names (a + 1) (k - 1)) in
+      e
+      ∙ ap (λ (t : List ℕ). put t q (bytesForEach countWidth (part counts a k))) (put-number-step nameWidth l names p a k h)
+      ∙ put-number-step countWidth (put n (p + nameWidth) ns) counts q a k h
+      ∙ ap (λ (t : List ℕ). put t (q + countWidth) cs) (put-swap n (p + nameWidth) ns q c (omega arith) ∙ ap (λ (t : List ℕ). put t (p + nameWidth) ns) (sym m))
 
-pub put-numbers-end : (w : ℕ) (z l ns : List ℕ) (p q left : ℕ) → z ≡ put l p (bytesForEach w (part ns q left)) → left ≤ 0 → l ≡ z
-unfolding put part bytesForEach
-put-numbers-end w z l ns p q left i h = let e : left ≡ 0 = omega arith in sym (i ∙ ap (λ (k : ℕ). put l p (bytesForEach w (part ns q k))) e)
+  pub blocks-end : k ≤ 0 → l ≡ z
+  unfolding put part bytesForEach
+  blocks-end h = let f : k ≡ 0 = omega arith in sym (e ∙ ap (withBlocks l names counts p q a) f)
 
--- ---- storing numbers read from bytes, w bytes each
+pub blocks-fit : (l l′ names counts : List ℕ) (p q a k : ℕ) → BlocksFit l names counts p q a k → length l′ ≡ length l → 0 < k
+    → BlocksFit l′ names counts (p + nameWidth) (q + countWidth) (a + 1) (k - 1)
+blocks-fit l l′ names counts p q a k f s h =
+    let b = f .before in
+    let r = f .room in
+    let n = f .inNames in
+    let c = f .inCounts in
+    record { inNames = omega arith; inCounts = omega arith; before = omega arith; room = omega arith }
 
-module _ (w : ℕ) (z l s : List ℕ) (at p left : ℕ) (e : z ≡ put l at (numbersAt w s p left)) where
-  pub store-next : (x : ℕ) → 0 < left → x ≡ numberAt w s p → z ≡ put (set l at x) (at + 1) (numbersAt w s (p + w) (left - 1))
+-- ---- storing numbers read from bytes, w bytes each: k of them from byte p on, to place a on
+
+pub record Storing (w : ℕ) (s l₀ z l : List ℕ) (p a k : ℕ) : Type 0 where
+  pub bytes : p + w * k ≤ length s
+  pub room : a + k ≤ length l
+  pub same : length l ≡ length l₀
+  pub rest : z ≡ put l a (numbersAt w s p k)
+
+module _ {w : ℕ} {s l₀ z l : List ℕ} {p a k : ℕ} (f : Storing w s l₀ z l p a k) where
+  pub store-next : {x : ℕ} → 0 < k → x ≡ numberAt w s p → Storing w s l₀ z (set l a x) (p + w) (a + 1) (k - 1)
   unfolding put
-  store-next x h q = e ∙ ap (put l at) (numbers-step w s p left h) ∙ rw q
+  store-next {x} h q =
+      let e : k ≡ suc (k - 1) = omega arith in
+      let t : w * k ≡ w + w * (k - 1) = ap (λ (j : ℕ). w * j) e ∙ mul-suc w (k - 1) ∙ omega arith in
+      let b = f .bytes in
+      let r = f .room in
+      let n = length-set l a x in
+      record {
+        bytes = omega arith;
+        room = omega arith;
+        same = n ∙ f .same;
+        rest = f .rest ∙ ap (put l a) (numbers-step w s p k h) ∙ rw q;
+      }
 
-  pub store-end : left ≤ 0 → l ≡ z
+  pub store-end : k ≤ 0 → l ≡ z
   unfolding put numbersAt
-  store-end h = let f : left ≡ 0 = omega arith in sym (e ∙ ap (λ (k : ℕ). put l at (numbersAt w s p k)) f)
+  store-end h = let g : k ≡ 0 = omega arith in sym (f .rest ∙ ap (λ (j : ℕ). put l a (numbersAt w s p j)) g)
 
--- ---- copying inside one list, upwards
+-- ---- copying inside one list, upwards: k numbers from place a on, which stand before b₀, to place b on
 
--- below b the list is as it was
-pub record Kept (b : ℕ) (l₀ l : List ℕ) : Type 0 where
-  pub still : (j : ℕ) → j < b → getD l j 0 ≡ getD l₀ j 0
+pub record Copying (b₀ : ℕ) (l₀ z l : List ℕ) (a b k : ℕ) : Type 0 where
+  pub before : a + k ≤ b₀
+  pub past : b₀ ≤ b
+  pub room : b + k ≤ length l
+  pub same : length l ≡ length l₀
+  pub still : (j : ℕ) → j < b₀ → getD l j 0 ≡ getD l₀ j 0
+  pub rest : z ≡ put l b (part l₀ a k)
 
-pub kept-all : (b : ℕ) (l : List ℕ) → Kept b l l
-kept-all b l = record { still = λ j h. refl }
-
-pub kept-next : (b q x : ℕ) (l₀ l : List ℕ) → Kept b l₀ l → b ≤ q → Kept b l₀ (set l q x)
-kept-next b q x l₀ l h k = record { still = λ j t. getD-set-other l q j x 0 (λ e. omega arith) ∙ h .still j t }
-
-module _ (z l₀ l : List ℕ) (b q p left : ℕ) (e : z ≡ put l q (part l₀ p left)) where
-  pub copy-next : Kept b l₀ l → 0 < left → p + left ≤ b → z ≡ put (set l q (getD l p 0)) (q + 1) (part l₀ (p + 1) (left - 1))
+module _ {b₀ : ℕ} {l₀ z l : List ℕ} {a b k : ℕ} (f : Copying b₀ l₀ z l a b k) where
+  pub copy-next : 0 < k → Copying b₀ l₀ z (set l b (getD l a 0)) (a + 1) (b + 1) (k - 1)
   unfolding put part
-  copy-next k h m = let f : left ≡ suc (left - 1) = omega arith in e ∙ ap (λ (j : ℕ). put l q (part l₀ p j)) f ∙ rw (← k .still p (omega arith))
+  copy-next h =
+      let e : k ≡ suc (k - 1) = omega arith in
+      let m = f .before in
+      let p = f .past in
+      let r = f .room in
+      let n = length-set l b (getD l a 0) in
+      record {
+        before = omega arith;
+        past = omega arith;
+        room = omega arith;
+        same = n ∙ f .same;
+        still = λ j t. getD-set-other l b j (getD l a 0) 0 (λ q. omega arith) ∙ f .still j t;
+        rest = f .rest ∙ ap (λ (j : ℕ). put l b (part l₀ a j)) e ∙ rw (← f .still a (omega arith));
+      }
 
-  pub copy-end : left ≤ 0 → l ≡ z
+  pub copy-end : k ≤ 0 → l ≡ z
   unfolding put part
-  copy-end h = let f : left ≡ 0 = omega arith in sym (e ∙ ap (λ (k : ℕ). put l q (part l₀ p k)) f)
+  copy-end h = let g : k ≡ 0 = omega arith in sym (f .rest ∙ ap (λ (j : ℕ). put l b (part l₀ a j)) g)

@@ -5,7 +5,7 @@ use mathlib.Core.Path.{_≡_, refl, sym, ap, _∙_}
 use mathlib.Core.List.{List, [], _∷_, _++_}
 use lib.Dec.{eqb, ltb}
 use lib.ListN.{length, getD, set, drop, length-set, length-append, length-drop, List·getD-append, List·getD-eq-default}
-use lib.Seq.{getD-set-same, getD-set-other, set-out, ext-getD, getD-drop, getD-append-add}
+use lib.Seq.{getD-set-same, getD-set-other, set-comm, set-out, ext-getD, getD-drop, getD-append-add}
 use borrow.Author.Tests.{ltb-true, ltb-false, eqb-true, eqb-false}
 use Rattle.message.specs.Numbers.{AllBelow, part, put}
 use Rattle.message.proofs.TestLaws.{either}
@@ -70,6 +70,18 @@ pub put-append : (l : List ℕ) (a : ℕ) (xs ys : List ℕ) → put l a (xs ++ 
 unfolding put
 put-append l a [] ys = ap (λ (k : ℕ). put l k ys) (omega arith)
 put-append l a (x ∷ xs) ys = put-append (set l a x) (a + 1) xs ys ∙ ap (λ (k : ℕ). put (put (set l a x) (a + 1) xs) k ys) (omega arith)
+
+-- what is written before something else, and apart from it, may be written after it
+set-put : (l : List ℕ) (a x b : ℕ) (ys : List ℕ) → a < b → put (set l a x) b ys ≡ set (put l b ys) a x
+unfolding put
+set-put l a x b [] h = refl
+set-put l a x b (y ∷ ys) h = ap (λ (m : List ℕ). put m (b + 1) ys) (set-comm l a b x y (λ e. omega arith)) ∙ set-put (set l b y) a x (b + 1) ys (omega arith)
+
+pub put-swap : (l : List ℕ) (a : ℕ) (xs : List ℕ) (b : ℕ) (ys : List ℕ) → a + length xs ≤ b → put (put l a xs) b ys ≡ put (put l b ys) a xs
+unfolding put
+put-swap l a [] b ys h = refl
+put-swap l a (x ∷ xs) b ys h =
+    put-swap (set l a x) (a + 1) xs b ys (omega arith) ∙ ap (λ (m : List ℕ). put m (a + 1) xs) (set-put l a x b ys (omega arith))
 
 -- places before and past what is written keep their values
 pub put-below : (l : List ℕ) (a : ℕ) (xs : List ℕ) (j : ℕ) → j < a → getD (put l a xs) j 0 ≡ getD l j 0

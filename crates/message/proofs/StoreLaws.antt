@@ -4,8 +4,8 @@ use native.Mathlib.Omega.{arith}
 use mathlib.Core.List.{List, [], _∷_}
 use mathlib.Core.Bool.{Bool, true, false, _&&_, and-eq-true-iff}
 use mathlib.Core.Logic.{_⊎_, inl, inr}
-use mathlib.Core.Path.{_≡_, refl, sym, ap, _∙_}
-use borrow.Author.Tests.{leb-true, leb-false, eq-eqb, ne-eqb}
+use mathlib.Core.Path.{_≡_, refl, sym, ap, subst, _∙_}
+use borrow.Author.Tests.{leb-true, leb-false, eqb-true, eqb-false, eq-eqb, ne-eqb}
 use lib.Dec.{leb, eqb}
 use lib.ListN.{length, getD}
 use Rattle.message.specs.Limits.{mostBlocks, headLength, nameWidth, countWidth, blockWidth}
@@ -14,12 +14,12 @@ use Rattle.message.specs.Numbers.{part, put, numberAt, numbersAt}
 use Rattle.message.specs.Logs.{Block, Log, isPrefix, sameLog, sameBlock, sharedLength, inStep, namesOf, countsOf}
 use Rattle.message.specs.Store.{blockAt, logAt, within, holdsLog, prefixAt, sharedAt, matchesAt, Stores, storeOf, fileOf, copyOf}
 use Rattle.message.specs.Message.{countIn, namesIn, countsIn, blocksIn, logIn}
-use Rattle.message.specs.Asks.{TwoLogs, BytesAndLog, Apart}
+use Rattle.message.specs.Asks.{TwoLogs, BytesAndLog}
 use Rattle.message.proofs.TestLaws.{either, and-on, and-off}
 use Rattle.message.proofs.LogLaws.{isPrefix-iff, sameLog-iff, prefix-refl, prefix-length, shared-most, shared-covers}
 use Rattle.message.proofs.ListedLaws.{length-at, names-at, counts-at, log-step, log-empty, within-of}
 use Rattle.message.proofs.Acceptance.{names-in, counts-in, length-blocks}
-use Rattle.message.proofs.LoopLaws.{numbers-step}
+use Rattle.message.proofs.LoopLaws.{numbers-step, Storing, Copying}
 
 -- ---- the walk along two logs in the lists
 
@@ -34,23 +34,42 @@ shared-none : (names counts : List ℕ) (p q left : ℕ) → left ≤ 0 → shar
 unfolding sharedLength
 shared-none names counts p q left h = let e = log-empty names counts p left h in λ i. sharedLength (e i) (logAt names counts q left)
 
--- z is the whole, k - left blocks of it are passed
-module _ (z k : ℕ) (names counts : List ℕ) (p q left : ℕ) (e : z ≡ (k - left) + sharedLength (logAt names counts p left) (logAt names counts q left)) (few : left ≤ k) where
-  module _ (r : Bool) (h : 0 < left) (s : r ≡ sameBlock (blockAt names counts p) (blockAt names counts q)) where
+-- z is the whole, i blocks of k are passed, and the next stand at p and q
+pub record Walking (z : ℕ) (names counts : List ℕ) (p q i k : ℕ) : Type 0 where
+  pub places : TwoLogs names counts p q (k - i)
+  pub rest : z ≡ i + sharedLength (logAt names counts p (k - i)) (logAt names counts q (k - i))
+
+pub walk-starts : (names counts : List ℕ) (p q k : ℕ) → TwoLogs names counts p q k → Walking (sharedLength (logAt names counts p k) (logAt names counts q k)) names counts p q 0 k
+walk-starts names counts p q k w =
+    let e : k - 0 ≡ k = omega arith in
+    let f = ap (λ (j : ℕ). sharedLength (logAt names counts p j) (logAt names counts q j)) e in
+    record { places = subst (TwoLogs names counts p q) (sym e) w; rest = omega arith }
+
+module _ {z : ℕ} {names counts : List ℕ} {p q i k : ℕ} (w : Walking z names counts p q i k) where
+  module _ {r : Bool} (h : i < k) (s : r ≡ sameBlock (blockAt names counts p) (blockAt names counts q)) where
     abbrev rest : ℕ
-    rest = sharedLength (logAt names counts (p + 1) (left - 1)) (logAt names counts (q + 1) (left - 1))
+    rest = sharedLength (logAt names counts (p + 1) (k - i - 1)) (logAt names counts (q + 1) (k - i - 1))
 
-    turn : sharedLength (logAt names counts p left) (logAt names counts q left) ≡ pick r (suc rest) 0
-    turn = shared-step names counts p q left h ∙ ap (λ (t : Bool). pick t (suc rest) 0) (sym s)
+    turn : (t : Bool) → r ≡ t → sharedLength (logAt names counts p (k - i)) (logAt names counts q (k - i)) ≡ pick t (suc rest) 0
+    turn t f = shared-step names counts p q (k - i) (omega arith) ∙ ap (λ (b : Bool). pick b (suc rest) 0) (sym s ∙ f)
 
-    pub walk-on : r ≡ true → z ≡ (k - (left - 1)) + sharedLength (logAt names counts (p + 1) (left - 1)) (logAt names counts (q + 1) (left - 1))
-    walk-on t = let f = turn ∙ ap (λ (b : Bool). pick b (suc rest) 0) t in omega arith
+    pub walk-on : r ≡ true → Walking z names counts (p + 1) (q + 1) (i + 1) k
+    walk-on t =
+        let e = w .rest in
+        let f = turn true t in
+        let l : k - i - 1 ≡ k - (i + 1) = omega arith in
+        let g = ap (λ (j : ℕ). sharedLength (logAt names counts (p + 1) j) (logAt names counts (q + 1) j)) l in
+        let a = w .places .firstName in
+        let b = w .places .secondName in
+        let c = w .places .firstCount in
+        let d = w .places .secondCount in
+        record { places = record { firstName = omega arith; secondName = omega arith; firstCount = omega arith; secondCount = omega arith }; rest = omega arith }
 
-    pub walk-off : r ≡ false → (k - left) ≡ z
-    walk-off t = let f = turn ∙ ap (λ (b : Bool). pick b (suc rest) 0) t in omega arith
+    pub walk-off : r ≡ false → i ≡ z
+    walk-off t = let e = w .rest in let f = turn false t in omega arith
 
-  pub walk-end : left ≤ 0 → k ≡ z
-  walk-end h = let f = shared-none names counts p q left h in omega arith
+  pub walk-end : k ≤ i → i ≡ z
+  walk-end h = let e = w .rest in let f = shared-none names counts p q (k - i) (omega arith) in omega arith
 
 -- ---- prefix
 
@@ -95,18 +114,6 @@ not-longer names counts a x b y h = go (isPrefix (logAt names counts a x) (logAt
         absurd (omega arith)
 
 module _ (names counts : List ℕ) (a x b y : ℕ) (v w : Bool) (e : v ≡ within names counts a x) (f : w ≡ within names counts b y) where
-  pub prefix-outside : (v && w) ≡ false → false ≡ prefixAt names counts a x b y
-  unfolding prefixAt
-  prefix-outside t = rw (← e, ← f, t)
-
-  pub prefix-longer : (v && w) ≡ true → y < x → false ≡ prefixAt names counts a x b y
-  unfolding prefixAt
-  prefix-longer t h = rw (← e, ← f, t, not-longer names counts a x b y h)
-
-  pub prefix-is : (r : ℕ) → (v && w) ≡ true → x ≤ y → r ≡ sharedLength (logAt names counts a x) (logAt names counts b x) → eqb r x ≡ prefixAt names counts a x b y
-  unfolding prefixAt
-  prefix-is r t h q = rw (← e, ← f, t) (ap (λ (n : ℕ). eqb n x) q ∙ prefix-cut names counts a x b y h)
-
   -- the walk's places, for as many blocks as both logs have
   asks : (k : ℕ) → (v && w) ≡ true → k ≤ x → k ≤ y → TwoLogs names counts a b k
   asks k t h g =
@@ -120,6 +127,24 @@ module _ (names counts : List ℕ) (a x b y : ℕ) (v w : Bool) (e : v ≡ withi
 
   pub second-asks : (v && w) ≡ true → y < x → TwoLogs names counts a b y
   second-asks t h = asks y t (omega arith) (omega arith)
+
+  -- the test of is_prefix, taken apart
+  short : ((v && w) && leb x y) ≡ true → ((v && w) ≡ true) × (x ≤ y)
+  short t = let s = and-eq-true-iff (v && w) (leb x y) .0 t in (s .0, leb-true x y (s .1))
+
+  pub prefix-asks : ((v && w) && leb x y) ≡ true → TwoLogs names counts a b x
+  prefix-asks t = let s = short t in first-asks (s .0) (s .1)
+
+  pub prefix-is : (r : ℕ) → ((v && w) && leb x y) ≡ true → r ≡ sharedLength (logAt names counts a x) (logAt names counts b x) → eqb r x ≡ prefixAt names counts a x b y
+  unfolding prefixAt
+  prefix-is r t q = let s = short t in rw (← e, ← f, s .0) (ap (λ (n : ℕ). eqb n x) q ∙ prefix-cut names counts a x b y (s .1))
+
+  pub prefix-not : ((v && w) && leb x y) ≡ false → false ≡ prefixAt names counts a x b y
+  unfolding prefixAt
+  prefix-not t =
+      either (v && w)
+      (λ s. rw (← e, ← f, s, not-longer names counts a x b y (leb-false x y (rw s at t))))
+      (λ s. rw (← e, ← f, s))
 
   pub shared-outside : (v && w) ≡ false → (0 ≡ sharedAt names counts a x b y) × (0 ≤ mostBlocks)
   unfolding sharedAt
@@ -180,44 +205,69 @@ match-step : (s names counts : List ℕ) (p q a left : ℕ) → 0 < left
 unfolding sameLog
 match-step s names counts p q a left h = let e = blocks-step s p q left h in let f = log-step names counts a left h in λ i. sameLog (e i) (f i)
 
-module _ (z : Bool) (s names counts : List ℕ) (p q a left : ℕ)
-    (e : z ≡ sameLog (inStep (numbersAt nameWidth s p left) (numbersAt countWidth s q left)) (logAt names counts a left)) where
-  module _ (r : Bool) (h : 0 < left) (b : r ≡ sameBlock (record { name = numberAt nameWidth s p; count = numberAt countWidth s q }) (blockAt names counts a)) where
-    pub match-on : r ≡ true → z ≡ sameLog (inStep (numbersAt nameWidth s (p + nameWidth) (left - 1)) (numbersAt countWidth s (q + countWidth) (left - 1))) (logAt names counts (a + 1) (left - 1))
-    match-on = and-on z r _ _ (e ∙ match-step s names counts p q a left h) b
+-- z is the whole, k blocks of it are to come: in the bytes from p and q on, in the lists from a on
+pub record Matching (z : Bool) (s names counts : List ℕ) (p q a k : ℕ) : Type 0 where
+  pub inBytes : (p + nameWidth * k ≤ length s) × (q + countWidth * k ≤ length s)
+  pub inLists : (a + k ≤ length names) × (a + k ≤ length counts)
+  pub rest : z ≡ sameLog (blocksFrom s p q k) (logAt names counts a k)
+
+pub match-starts : (s names counts : List ℕ) (a k : ℕ) → BytesAndLog s names counts a k
+    → Matching (sameLog (blocksIn s k) (logAt names counts a k)) s names counts headLength (headLength + nameWidth * k) a k
+match-starts s names counts a k h =
+    let b = h .bytes in record { inBytes = (omega arith, omega arith); inLists = (h .inNames, h .inCounts); rest = refl }
+
+module _ {z : Bool} {s names counts : List ℕ} {p q a k : ℕ} (w : Matching z s names counts p q a k) where
+  module _ {r : Bool} {x y : ℕ} (h : 0 < k) (e : x ≡ numberAt nameWidth s p) (f : y ≡ numberAt countWidth s q)
+      (b : r ≡ sameBlock (record { name = x; count = y }) (blockAt names counts a)) where
+    read : r ≡ sameBlock (blockFrom s p q) (blockAt names counts a)
+    read = b ∙ rw (e, f)
+
+    pub match-on : r ≡ true → Matching z s names counts (p + nameWidth) (q + countWidth) (a + 1) (k - 1)
+    match-on t =
+        let i = w .inBytes in
+        let j = w .inLists in
+        record {
+          inBytes = (omega arith, omega arith);
+          inLists = (omega arith, omega arith);
+          rest = and-on z r _ _ (w .rest ∙ match-step s names counts p q a k h) read t;
+        }
 
     pub match-off : r ≡ false → false ≡ z
-    match-off = and-off z r _ _ (e ∙ match-step s names counts p q a left h) b
+    match-off = and-off z r _ _ (w .rest ∙ match-step s names counts p q a k h) read
 
-  pub match-end : left ≤ 0 → true ≡ z
+  pub match-end : k ≤ 0 → true ≡ z
   unfolding sameLog numbersAt inStep logAt part
-  match-end h = let f : left ≡ 0 = omega arith in sym (e ∙ ap (λ (k : ℕ). sameLog (inStep (numbersAt nameWidth s p k) (numbersAt countWidth s q k)) (logAt names counts a k)) f)
+  match-end h = let f : k ≡ 0 = omega arith in sym (w .rest ∙ ap (λ (j : ℕ). sameLog (blocksFrom s p q j) (logAt names counts a j)) f)
 
-module _ (s names counts : List ℕ) (a x : ℕ) (v w : Bool) (e : v ≡ holdsLog s) (f : w ≡ within names counts a x) where
-  pub match-outside : (v && w) ≡ false → false ≡ matchesAt s names counts a x
+module _ (s names counts : List ℕ) (a x : ℕ) (v w : Bool) (e : v ≡ holdsLog s) (f : w ≡ within names counts a x) (k : ℕ) (g : k ≡ getD s 0 0) where
+  apart : ((v && w) && eqb k x) ≡ true → ((v && w) ≡ true) × (k ≡ x)
+  apart t = let p = and-eq-true-iff (v && w) (eqb k x) .0 t in (p .0, eqb-true k x (p .1))
+
+  pub match-asks : ((v && w) && eqb k x) ≡ true → BytesAndLog s names counts a x
+  match-asks t = let p = apart t in let l = p .1 in holds-asks s names counts a x v w e f (p .0) (omega arith)
+
+  pub match-is : (r : Bool) → ((v && w) && eqb k x) ≡ true → r ≡ sameLog (blocksIn s x) (logAt names counts a x) → r ≡ matchesAt s names counts a x
   unfolding matchesAt
-  match-outside t = rw (← e, ← f, t)
+  match-is r t q = let p = apart t in rw (← e, ← f, p .0, ← g, p .1) q
 
-  module _ (k : ℕ) (g : k ≡ getD s 0 0) where
-    pub match-asks : (v && w) ≡ true → x ≤ k → BytesAndLog s names counts a x
-    match-asks t h = holds-asks s names counts a x v w e f t (omega arith)
+  -- logs of unlike length are not the same
+  unlike : (k ≡ x → ⊥) → false ≡ sameLog (logIn s) (logAt names counts a x)
+  unlike h = go (sameLog (logIn s) (logAt names counts a x)) refl
+    where
+      go : (b : Bool) → sameLog (logIn s) (logAt names counts a x) ≡ b → false ≡ sameLog (logIn s) (logAt names counts a x)
+      go false q = sym q
+      go true q =
+          let same = ap (λ (L : Log). length L) (sameLog-iff (logIn s) (logAt names counts a x) .0 q) in
+          let m = length-blocks s (countIn s) in
+          let n = length-at names counts a x in
+          absurd (h (omega arith))
 
-    pub match-is : (r : Bool) → (v && w) ≡ true → k ≡ x → r ≡ sameLog (blocksIn s x) (logAt names counts a x) → r ≡ matchesAt s names counts a x
-    unfolding matchesAt
-    match-is r t h q = rw (← e, ← f, t, ← g, h) q
-
-    -- logs of unlike length are not the same
-    pub match-unlike : (v && w) ≡ true → (k ≡ x → ⊥) → false ≡ matchesAt s names counts a x
-    unfolding matchesAt
-    match-unlike t h = rw (← e, ← f, t) (go (sameLog (logIn s) (logAt names counts a x)) refl)
-      where
-        go : (b : Bool) → sameLog (logIn s) (logAt names counts a x) ≡ b → false ≡ sameLog (logIn s) (logAt names counts a x)
-        go false q = sym q
-        go true q =
-            let same = ap (λ (L : Log). length L) (sameLog-iff (logIn s) (logAt names counts a x) .0 q) in
-            let m = length-blocks s (countIn s) in
-            let n = length-at names counts a x in
-            absurd (h (omega arith))
+  pub match-not : ((v && w) && eqb k x) ≡ false → false ≡ matchesAt s names counts a x
+  unfolding matchesAt
+  match-not t =
+      either (v && w)
+      (λ p. rw (← e, ← f, p) (unlike (eqb-false k x (rw p at t))))
+      (λ p. rw (← e, ← f, p))
 
 -- ---- storing, whatever the log: done where the test holds, and nothing changed where it does not
 
@@ -239,11 +289,17 @@ module _ (names counts : List ℕ) (a : ℕ) (s : List ℕ) (k : ℕ) (g : k ≡
   pub file-outside : (v && w) ≡ false → Stores (fileOf names counts a s) false names counts
   file-outside t = stored-not (holdsLog s && within names counts a (countIn s)) names counts a (logIn s) (tested ∙ t)
 
-  pub file-asks : (v && w) ≡ true → BytesAndLog s names counts a k
-  file-asks t = holds-asks s names counts a k v w e f t (omega arith)
+  -- the two walks as they start
+  pub file-starts : (v && w) ≡ true
+      → Storing nameWidth s names (put names a (namesIn s k)) names headLength a k
+      × Storing countWidth s counts (put counts a (countsIn s k)) counts (headLength + nameWidth * k) a k
+  file-starts t =
+      let h = holds-asks s names counts a k v w e f t (omega arith) in
+      let b = h .bytes in
+      (record { bytes = omega arith; room = h .inNames; same = refl; rest = refl }, record { bytes = omega arith; room = h .inCounts; same = refl; rest = refl })
 
-  pub file-done : (ns cs : List ℕ) → (v && w) ≡ true → (ns ≡ put names a (namesIn s k)) × (cs ≡ put counts a (countsIn s k)) → Stores (fileOf names counts a s) true ns cs
-  file-done ns cs t (m, n) =
+  pub file-done : (ns cs : List ℕ) → (v && w) ≡ true → ns ≡ put names a (namesIn s k) → cs ≡ put counts a (countsIn s k) → Stores (fileOf names counts a s) true ns cs
+  file-done ns cs t m n =
       let p : namesIn s k ≡ namesOf (logIn s) = sym (names-in s k) ∙ ap (λ (j : ℕ). namesOf (blocksIn s j)) g in
       let q : countsIn s k ≡ countsOf (logIn s) = sym (counts-in s k) ∙ ap (λ (j : ℕ). countsOf (blocksIn s j)) g in
       stored (holdsLog s && within names counts a (countIn s)) names counts a (logIn s) ns cs (tested ∙ t) (m ∙ ap (put names a) p) (n ∙ ap (put counts a) q)
@@ -257,25 +313,24 @@ module _ (names counts : List ℕ) (a b k : ℕ) (v w : Bool) (e : v ≡ leb (a 
   pub copy-outside : (v && w) ≡ false → Stores (copyOf names counts a b k) false names counts
   copy-outside t = stored-not (leb (a + k) b && within names counts b k) names counts b (logAt names counts a k) (allowed ∙ t)
 
-  pub copy-asks : (v && w) ≡ true → Apart names counts a b k
-  copy-asks t =
+  -- the two walks as they start
+  pub copy-starts : (v && w) ≡ true → Copying b names (put names b (part names a k)) names a b k × Copying b counts (put counts b (part counts a k)) counts a b k
+  copy-starts t =
       let p = and-eq-true-iff v w .0 t in
       let m = within-of names counts b k (sym f ∙ p .1) in
-      record { before = leb-true (a + k) b (sym e ∙ p .0); inNames = m .inNames; inCounts = m .inCounts }
+      let q = leb-true (a + k) b (sym e ∙ p .0) in (
+        record { before = q; past = omega arith; room = m .inNames; same = refl; still = λ j h. refl; rest = refl },
+        record { before = q; past = omega arith; room = m .inCounts; same = refl; still = λ j h. refl; rest = refl },
+      )
 
-  pub copy-done : (ns cs : List ℕ) → (v && w) ≡ true → (ns ≡ put names b (part names a k)) × (cs ≡ put counts b (part counts a k))
+  pub copy-done : (ns cs : List ℕ) → (v && w) ≡ true → ns ≡ put names b (part names a k) → cs ≡ put counts b (part counts a k)
       → Stores (copyOf names counts a b k) true ns cs
-  copy-done ns cs t (m, n) =
+  copy-done ns cs t m n =
       stored (leb (a + k) b && within names counts b k) names counts b (logAt names counts a k) ns cs (allowed ∙ t)
       (m ∙ ap (put names b) (sym (names-at names counts a k)))
       (n ∙ ap (put counts b) (sym (counts-at names counts a k)))
 
--- ---- the tests of a block and of a range, on what the code read
+-- ---- the test of a range, on what the code found
 
-pub block-is : (s names counts : List ℕ) (p q a x y : ℕ) → x ≡ numberAt nameWidth s p → y ≡ numberAt countWidth s q
-    → (eqb x (getD names a 0) && eqb y (getD counts a 0)) ≡ sameBlock (record { name = numberAt nameWidth s p; count = numberAt countWidth s q }) (blockAt names counts a)
-block-is s names counts p q a x y e f = rw (e, f)
-
-pub within-is : (names counts : List ℕ) (a k : ℕ) (v w : Bool) → v ≡ leb (a + k) (length names) → w ≡ leb (a + k) (length counts)
-    → (leb k mostBlocks && (v && w)) ≡ within names counts a k
-within-is names counts a k v w e f = rw (e, f)
+pub within-is : (m n a k : ℕ) (v w : Bool) → v ≡ leb (a + k) m → w ≡ leb (a + k) n → (leb k mostBlocks && (v && w)) ≡ (leb k mostBlocks && (leb (a + k) m && leb (a + k) n))
+within-is m n a k v w e f = rw (e, f)

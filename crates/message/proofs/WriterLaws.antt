@@ -11,11 +11,11 @@ use Rattle.message.specs.Limits.{mostBlocks, headLength, nameWidth, coun
 use Rattle.message.specs.Numbers.{part, put, bytesFor, bytesForEach}
 use Rattle.message.specs.Logs.{Block, namesOf, countsOf}
 use Rattle.message.specs.Message.{Content, Meaning, logKind, proposalKind, messageBytes, bytesOf}
-use Rattle.message.specs.Store.{logAt, within, roomFor, Writes, writeOf, logFrom, proposalFrom}
-use Rattle.message.specs.Asks.{Room}
+use Rattle.message.specs.Store.{logAt, within, roomFor, Writes, writeOf, logFrom, writeLogOf, proposalFrom}
+use Rattle.message.specs.Asks.{BlocksFit, withBlocks, headOf, WritesFirst}
 use Rattle.message.proofs.LogLaws.{names-append, counts-append}
 use Rattle.message.proofs.ListedLaws.{length-at, names-at, counts-at, within-of}
-use Rattle.message.proofs.PartLaws.{length-part, put-append}
+use Rattle.message.proofs.PartLaws.{length-part, length-put, put-append, put-swap}
 use Rattle.message.proofs.NumberLaws.{length-bytes, length-bytes-each, bytes-each-append}
 
 -- ---- the head
@@ -42,7 +42,7 @@ bytes-one : (w x : ℕ) → bytesForEach w (x ∷ []) ≡ bytesFor w x
 unfolding bytesForEach
 bytes-one w x = append-nil (bytesFor w x)
 
-pub one-more : (w : ℕ) (o o₀ o₁ ns : List ℕ) (at a k x : ℕ) → o₀ ≡ put o at (bytesForEach w (part ns a k)) → o₁ ≡ put o₀ (at + w * k) (bytesFor w x)
+one-more : (w : ℕ) (o o₀ o₁ ns : List ℕ) (at a k x : ℕ) → o₀ ≡ put o at (bytesForEach w (part ns a k)) → o₁ ≡ put o₀ (at + w * k) (bytesFor w x)
     → o₁ ≡ put o at (bytesForEach w (part ns a k ++ (x ∷ [])))
 one-more w o o₀ o₁ ns at a k x e₀ e₁ =
     let l = numbers-length w k (part ns a k) (length-part ns a k) in
@@ -75,24 +75,28 @@ message-written m kind priority o o₀ o₁ o₂ e₀ e₁ e₂ =
     ∙ ap (λ (j : ℕ). put (put o 0 head) (0 + j) (ns ++ cs)) l
     ∙ put-append (put o 0 head) headLength ns cs))
 
-pub log-put : (names counts : List ℕ) (a k sender view : ℕ) (o o₀ o₁ o₂ : List ℕ)
-    → o₀ ≡ put o 0 (k ∷ sender ∷ logKind ∷ 0 ∷ (bytesFor 4 view ++ bytesFor 8 0)) → o₁ ≡ put o₀ headLength (bytesForEach nameWidth (part names a k))
-    → o₂ ≡ put o₁ (headLength + nameWidth * k) (bytesForEach countWidth (part counts a k)) → o₂ ≡ put o 0 (bytesOf (logFrom names counts a k sender view))
+log-put : (names counts : List ℕ) (a k sender view : ℕ) (o o₀ o₁ : List ℕ) → o₀ ≡ put o 0 (headOf k sender logKind view 0)
+    → o₁ ≡ withBlocks o₀ names counts headLength (headLength + nameWidth * k) a k → o₁ ≡ put o 0 (bytesOf (logFrom names counts a k sender view))
 unfolding bytesOf
-log-put names counts a k sender view o o₀ o₁ o₂ e₀ e₁ e₂ =
+log-put names counts a k sender view o o₀ o₁ e₀ e₁ =
     let p = length-at names counts a k in
     let q = names-at names counts a k in
     let r = counts-at names counts a k in
     let l = numbers-length nameWidth k (part names a k) (length-part names a k) in
-    message-written (record { sender = sender; view = view; log = logAt names counts a k }) logKind 0 o o₀ o₁ o₂ (rw p e₀) (rw q e₁) (rw (q, r, l) e₂)
+    message-written (record { sender = sender; view = view; log = logAt names counts a k }) logKind 0 o o₀ (put o₀ headLength (bytesForEach nameWidth (part names a k))) o₁ (rw p e₀) (rw q refl) (rw (q, r, l) e₁)
 
-pub proposal-put : (names counts : List ℕ) (a k : ℕ) (block : Block) (sender view priority : ℕ) (o o₀ o₁ o₂ : List ℕ)
-    → o₀ ≡ put o 0 ((k + 1) ∷ sender ∷ proposalKind ∷ 0 ∷ (bytesFor 4 view ++ bytesFor 8 priority)) → o₁ ≡ put o₀ headLength (bytesForEach nameWidth (part names a k ++ (block .name ∷ [])))
-    → o₂ ≡ put o₁ (headLength + nameWidth * (k + 1)) (bytesForEach countWidth (part counts a k ++ (block .count ∷ [])))
-    → o₂ ≡ put o 0 (bytesOf (proposalFrom names counts a k block sender view priority))
+-- one block more: its name is written past the names, its count past the counts
+proposal-put : (names counts : List ℕ) (a k : ℕ) (block : Block) (sender view priority : ℕ) (o o₀ o₁ o₂ o₃ : List ℕ) → o₀ ≡ put o 0 (headOf (k + 1) sender proposalKind view priority)
+    → o₁ ≡ withBlocks o₀ names counts headLength (headLength + nameWidth * (k + 1)) a k
+    → o₂ ≡ put o₁ (headLength + nameWidth * k) (bytesFor nameWidth (block .name))
+    → o₃ ≡ put o₂ (headLength + nameWidth * (k + 1) + countWidth * k) (bytesFor countWidth (block .count))
+    → o₃ ≡ put o 0 (bytesOf (proposalFrom names counts a k block sender view priority))
 unfolding bytesOf namesOf countsOf
-proposal-put names counts a k block sender view priority o o₀ o₁ o₂ e₀ e₁ e₂ =
+proposal-put names counts a k block sender view priority o o₀ o₁ o₂ o₃ e₀ e₁ e₂ e₃ =
     let L = logAt names counts a k in
+    let ns = bytesForEach nameWidth (part names a k) in
+    let cs = bytesForEach countWidth (part counts a k) in
+    let x = bytesFor nameWidth (block .name) in
     let p : length (L ++ (block ∷ [])) ≡ k + 1 = length-append L (block ∷ []) ∙ ap (λ (j : ℕ). j + 1) (length-at names counts a k) in
     let q : namesOf (L ++ (block ∷ [])) ≡ part names a k ++ (block .name ∷ []) =
     names-append L (block ∷ []) ∙ ap (λ (t : List ℕ). t ++ (block .name ∷ [])) (names-at names counts a k) in
@@ -100,37 +104,100 @@ proposal-put names counts a k block sender view priority o o₀ o₁ o₂ e₀ e
     counts-append L (block ∷ []) ∙ ap (λ (t : List ℕ). t ++ (block .count ∷ [])) (counts-at names counts a k) in
     let n : length (part names a k ++ (block .name ∷ [])) ≡ k + 1 = length-append (part names a k) (block .name ∷ []) ∙ ap (λ (j : ℕ). j + 1) (length-part names a k) in
     let l = numbers-length nameWidth (k + 1) (part names a k ++ (block .name ∷ [])) n in
-    message-written (record { sender = sender; view = view; log = L ++ (block ∷ []) }) proposalKind priority o o₀ o₁ o₂ (rw p e₀) (rw q e₁) (rw (q, r, l) e₂)
+    let named = put o₀ headLength (bytesForEach nameWidth (part names a k ++ (block .name ∷ []))) in
+    let w = length-bytes nameWidth (block .name) in
+    let f : o₂ ≡ put named (headLength + nameWidth * (k + 1)) cs =
+    e₂ ∙ ap (λ (t : List ℕ). put t (headLength + nameWidth * k) x) e₁
+    ∙ sym (put-swap (put o₀ headLength ns) (headLength + nameWidth * k) x (headLength + nameWidth * (k + 1)) cs (omega arith))
+    ∙ ap (λ (t : List ℕ). put t (headLength + nameWidth * (k + 1)) cs)
+    (one-more nameWidth o₀ (put o₀ headLength ns) (put (put o₀ headLength ns) (headLength + nameWidth * k) x) names headLength a k (block .name) refl refl) in
+    let g = one-more countWidth named o₂ o₃ counts (headLength + nameWidth * (k + 1)) a k (block .count) f e₃ in
+    message-written (record { sender = sender; view = view; log = L ++ (block ∷ []) }) proposalKind priority o o₀ named o₃ (rw p e₀) (rw q refl) (rw (q, r, l) g)
 
--- ---- the answers
+-- ---- the head and the first blocks
 
--- the test of room, and what it says
-pub room-long : (out names counts : List ℕ) (a k m : ℕ) → mostBlocks < m → false ≡ roomFor out names counts a k m
+room-long : (out names counts : List ℕ) (a k m : ℕ) → mostBlocks < m → false ≡ roomFor out names counts a k m
 unfolding roomFor
 room-long out names counts a k m h = rw (lt-leb m mostBlocks h)
 
-pub room-is : (out names counts : List ℕ) (a k m : ℕ) (w : Bool) → m ≤ mostBlocks → w ≡ within names counts a k
-    → (w && leb (headLength + blockWidth * m) (length out)) ≡ roomFor out names counts a k m
-unfolding roomFor
-room-is out names counts a k m w h e = rw (le-leb m mostBlocks h, e)
+pub first-room : (out : List ℕ) (m : ℕ) (w : Bool) → (w && leb (headLength + blockWidth * m) (length out)) ≡ true → headLength + blockWidth * m ≤ length out
+first-room out m w t = leb-true (headLength + blockWidth * m) (length out) (and-eq-true-iff w (leb (headLength + blockWidth * m) (length out)) .0 t .1)
 
-pub room-of : (out names counts : List ℕ) (a k m : ℕ) (z : Bool) → z ≡ roomFor out names counts a k m → z ≡ true → Room out names counts a k m
+module _ (out names counts : List ℕ) (a k m sender kind view priority : ℕ) where
+  pub first-long : mostBlocks < m → WritesFirst out names counts a k m sender kind view priority false out
+  first-long h = record { answered = room-long out names counts a k m h; buffer = refl }
+
+  module _ (w : Bool) (few : m ≤ mostBlocks) (e : w ≡ within names counts a k) where
+    test : (t : Bool) → (w && leb (headLength + blockWidth * m) (length out)) ≡ t → t ≡ roomFor out names counts a k m
+    unfolding roomFor
+    test t f = sym f ∙ rw (le-leb m mostBlocks few, e)
+
+    pub first-not : (w && leb (headLength + blockWidth * m) (length out)) ≡ false → WritesFirst out names counts a k m sender kind view priority false out
+    first-not t = record { answered = test false t; buffer = refl }
+
+    module _ (t : (w && leb (headLength + blockWidth * m) (length out)) ≡ true) where
+      pub first-fit : (o : List ℕ) → k ≤ m → length o ≡ length out → BlocksFit o names counts headLength (headLength + nameWidth * m) a k
+      first-fit o h l =
+          let r = first-room out m w t in
+          let i = within-of names counts a k (sym e ∙ and-eq-true-iff w (leb (headLength + blockWidth * m) (length out)) .0 t .0) in
+          record { inNames = i .inNames; inCounts = i .inCounts; before = omega arith; room = omega arith }
+
+      pub first-done : (o o′ : List ℕ) → o ≡ put out 0 (headOf m sender kind view priority) → o′ ≡ withBlocks o names counts headLength (headLength + nameWidth * m) a k
+          → WritesFirst out names counts a k m sender kind view priority true o′
+      first-done o o′ p q = record { answered = test true t; buffer = q ∙ ap (λ (l : List ℕ). withBlocks l names counts headLength (headLength + nameWidth * m) a k) p }
+
+-- what is written has room for one block more
+pub block-room : {out names counts : List ℕ} {a k m sender kind view priority : ℕ} {r : Bool} {o : List ℕ} → WritesFirst out names counts a k m sender kind view priority r o
+    → r ≡ true → headLength + blockWidth * m ≤ length o
 unfolding roomFor
-room-of out names counts a k m z e t =
-    let f = and-eq-true-iff (leb m mostBlocks) (within names counts a k && leb (headLength + blockWidth * m) (length out)) .0 (sym e ∙ t) in
-    let g = and-eq-true-iff (within names counts a k) (leb (headLength + blockWidth * m) (length out)) .0 (f .1) in
-    let w = within-of names counts a k (g .0) in
-    record { few = leb-true m mostBlocks (f .0); inNames = w .inNames; inCounts = w .inCounts; room = leb-true (headLength + blockWidth * m) (length out) (g .1) }
+block-room {out} {names} {counts} {a} {k} {m} {sender} {kind} {view} {priority} {r} {o} f t =
+    let p = and-eq-true-iff (leb m mostBlocks) (within names counts a k && leb (headLength + blockWidth * m) (length out)) .0 (sym (f .answered) ∙ t) in
+    let q = and-eq-true-iff (within names counts a k) (leb (headLength + blockWidth * m) (length out)) .0 (p .1) in
+    let h = leb-true (headLength + blockWidth * m) (length out) (q .1) in
+    let begun = put out 0 (headOf m sender kind view priority) in
+    let named = put begun headLength (bytesForEach nameWidth (part names a k)) in
+    let l : o ≡ put named (headLength + nameWidth * m) (bytesForEach countWidth (part counts a k)) = f .buffer ∙ rw t in
+    let x = ap (λ (s : List ℕ). length s) l in
+    let y = length-put named (headLength + nameWidth * m) (bytesForEach countWidth (part counts a k)) in
+    let z = length-put begun headLength (bytesForEach nameWidth (part names a k)) in
+    let w = length-put out 0 (headOf m sender kind view priority) in
+    omega arith
+
+-- ---- the answers
 
 -- whatever the message: written where the test holds, and not where it does not
 module _ (ok : Bool) (out : List ℕ) (m : Meaning) (z : Bool) (e : z ≡ ok) where
-  pub message-done : (o : List ℕ) → z ≡ true → o ≡ put out 0 (bytesOf m) → Writes (writeOf ok out m) true o
+  message-done : (o : List ℕ) → z ≡ true → o ≡ put out 0 (bytesOf m) → Writes (writeOf ok out m) true o
   unfolding writeOf
   message-done o t q = rw (← e, t) (record { answered = refl; buffer = q })
 
-  pub message-not : z ≡ false → Writes (writeOf ok out m) false out
+  message-not : (o : List ℕ) → z ≡ false → o ≡ out → Writes (writeOf ok out m) false o
   unfolding writeOf
-  message-not t = rw (← e, t) (record { answered = refl; buffer = refl })
+  message-not o t q = rw (← e, t) (record { answered = refl; buffer = q })
 
-pub proposal-full : (out names counts : List ℕ) (a k : ℕ) (m : Meaning) → mostBlocks ≤ k → Writes (writeOf (roomFor out names counts a k (k + 1)) out m) false out
-proposal-full out names counts a k m h = message-not (roomFor out names counts a k (k + 1)) out m false (room-long out names counts a k (k + 1) (omega arith)) refl
+pub log-written : (out names counts : List ℕ) (a k sender view : ℕ) (r : Bool) (o : List ℕ) → WritesFirst out names counts a k k sender logKind view 0 r o
+    → Writes (writeLogOf out names counts a k sender view) r o
+log-written out names counts a k sender view false o f = message-not (roomFor out names counts a k k) out (logFrom names counts a k sender view) false (f .answered) o refl (f .buffer)
+log-written out names counts a k sender view true o f =
+    message-done (roomFor out names counts a k k) out (logFrom names counts a k sender view) true (f .answered) o refl (log-put names counts a k sender view out (put out 0 (headOf k sender logKind view 0)) o refl (f .buffer))
+
+module _ (out names counts : List ℕ) (a k name count sender view priority : ℕ) where
+  abbrev made : Meaning
+  made = proposalFrom names counts a k (record { name = name; count = count }) sender view priority
+
+  pub proposal-full : mostBlocks ≤ k → Writes (writeOf (roomFor out names counts a k (k + 1)) out made) false out
+  proposal-full h = message-not (roomFor out names counts a k (k + 1)) out made false (room-long out names counts a k (k + 1) (omega arith)) out refl refl
+
+  module _ (r : Bool) (o : List ℕ) (f : WritesFirst out names counts a k (k + 1) sender proposalKind view priority r o) where
+    pub proposal-not : r ≡ false → Writes (writeOf (roomFor out names counts a k (k + 1)) out made) false o
+    proposal-not t = message-not (roomFor out names counts a k (k + 1)) out made r (f .answered) o t (f .buffer ∙ rw t)
+
+    pub proposal-done : (o′ : List ℕ) → r ≡ true
+        → o′ ≡ put (put o (headLength + nameWidth * k) (bytesFor nameWidth name)) (headLength + nameWidth * k + nameWidth + countWidth * k) (bytesFor countWidth count)
+        → Writes (writeOf (roomFor out names counts a k (k + 1)) out made) true o′
+    proposal-done o′ t p =
+        let named = put o (headLength + nameWidth * k) (bytesFor nameWidth name) in
+        let e : headLength + nameWidth * k + nameWidth + countWidth * k ≡ headLength + nameWidth * (k + 1) + countWidth * k = omega arith in
+        message-done (roomFor out names counts a k (k + 1)) out made r (f .answered) o′ t
+        (proposal-put names counts a k (record { name = name; count = count }) sender view priority out (put out 0 (headOf (k + 1) sender proposalKind view priority)) o named o′ refl (f .buffer ∙ rw t) refl
+        (p ∙ ap (λ (j : ℕ). put named j (bytesFor countWidth count)) e))

@@ -22,10 +22,7 @@ pub(crate) fn u32_at(s: &[u8], at: usize) -> u32
     requires { ⌜ at + 4 ≤ length (now s) ⌝ }
     ensures { λ r. ⌜ r ≡ numberAt 4 (now (s .entry)) at ⌝ }
 {
-    (wide(s[at])
-        + wide(s[at + 1]) * 256
-        + wide(s[at + 2]) * 65536
-        + wide(s[at + 3]) * 16777216) as u32
+    (u16_at(s, at) as u32) + (u16_at(s, at + 2) as u32) * 65536
 }
 
 pub(crate) fn u64_at(s: &[u8], at: usize) -> u64
@@ -74,17 +71,14 @@ pub fn u64_in(s: &[u8], at: usize) -> u64
 }
 
 // x in w bytes from place at on, lowest byte first.
-pub(crate) fn put_number(out: &mut [u8], at: usize, x: u64, w: usize)
+pub(crate) fn put_number(out: &mut [u8], mut at: usize, mut x: u64, mut w: usize)
     requires { ⌜ at + w ≤ length (now out) ⌝ }
     ensures { λ _. ⌜ now (out .exit) ≡ put (now (out .entry)) at (bytesFor w x) ⌝ }
 {
-    let mut left = w;
-    let mut p = at;
-    let mut y = x;
-    while 0 < left {
-        out[p] = (y % 256) as u8;
-        p += 1;
-        y = y / 256;
-        left -= 1;
+    while 0 < w {
+        out[at] = (x % 256) as u8;
+        at += 1;
+        x = x / 256;
+        w -= 1;
     }
 }

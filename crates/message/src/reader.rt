@@ -28,17 +28,16 @@ fn is_malformed(s: &[u8]) -> bool
 }
 
 // One of the k names is zero. All are looked at, without a branch.
-fn zero_named(s: &[u8], k: usize) -> bool
+fn zero_named(s: &[u8], mut k: usize) -> bool
     requires { ⌜ headLength + nameWidth * k ≤ length (now s) ⌝ }
     ensures { λ r. ⌜ r ≡ anyZero (namesIn (now (s .entry)) k) ⌝ }
 {
-    let mut left = k;
     let mut p = HEAD_LENGTH;
     let mut zero = false;
-    while 0 < left {
+    while 0 < k {
         zero = zero | (u64_at(s, p) == 0);
         p += NAME_WIDTH;
-        left -= 1;
+        k -= 1;
     }
     zero
 }
@@ -76,8 +75,7 @@ pub fn read(n: u8, bytes: &[u8]) -> Message
         blocks,
     };
     if bytes[2] == LOG_KIND {
-        Message::Log(head)
-    } else {
-        Message::Proposal(head, u64_at(bytes, 8))
+        return Message::Log(head);
     }
+    Message::Proposal(head, u64_at(bytes, 8))
 }

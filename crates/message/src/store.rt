@@ -2,13 +2,16 @@
 // Each answers for every place and length: what is no log within the lists is answered by false, or
 // by 0 where a number is asked, and nothing is written.
 ghost use mathlib.Core.Path.{_≡_};
-ghost use Prim.Native.Nat.{_<_, _≤_};
+ghost use mathlib.Core.Bool.{_&&_};
+ghost use Prim.Native.Nat.{_+_, _<_, _≤_};
+ghost use lib.Dec.{leb};
+ghost use lib.ListN.{length};
 ghost use Rattle.message.specs.Limits.{mostBlocks, nameWidth, countWidth};
 ghost use Rattle.message.specs.Numbers.{part, put, numberAt};
 ghost use Rattle.message.specs.Logs.{sameLog, sameBlock, sharedLength};
 ghost use Rattle.message.specs.Message.{countIn, namesIn, countsIn, blocksIn};
 ghost use Rattle.message.specs.Store.{blockAt, logAt, within, holdsLog, prefixAt, sharedAt, matchesAt, Stores, fileOf, copyOf};
-ghost use Rattle.message.specs.Asks.{TwoLogs, BytesAndBlock, BytesAndLog, Apart};
+ghost use Rattle.message.specs.Asks.{TwoLogs, BytesAndLog};
 use super::BLOCK_WIDTH;
 use super::COUNT_WIDTH;
 use super::HEAD_LENGTH;
@@ -19,49 +22,46 @@ use super::number::u16_at;
 use super::number::u64_at;
 use super::number::wide;
 
-// k blocks from place a on are a log within both lists.
-pub(crate) fn is_within(names: &[u64], counts: &[u16], a: usize, k: usize) -> bool
-    ensures { λ r. ⌜ r ≡ within (now (names .entry)) (now (counts .entry)) a k ⌝ }
+// k blocks from place a on are a log within both lists, of which the lengths are given.
+pub(crate) fn is_within(names: usize, counts: usize, a: usize, k: usize) -> bool
+    ensures { λ r. ⌜ r ≡ (leb k mostBlocks && (leb (a + k) names && leb (a + k) counts)) ⌝ }
 {
-    (k <= MOST_BLOCKS) & (fits(a, k, names.len()) & fits(a, k, counts.len()))
+    (k <= MOST_BLOCKS) & (fits(a, k, names) & fits(a, k, counts))
 }
 
-// The block at a is the block at b.
-fn same_block(names: &[u64], counts: &[u16], a: usize, b: usize) -> bool
-    requires { ⌜ TwoLogs (now names) (now counts) a b 1 ⌝ }
-    ensures { λ r. ⌜ r ≡ sameBlock (blockAt (now (names .entry)) (now (counts .entry)) a) (blockAt (now (names .entry)) (now (counts .entry)) b) ⌝ }
+// The block at a has this name and this count.
+fn is_block(names: &[u64], counts: &[u16], a: usize, name: u64, count: u16) -> bool
+    requires { ⌜ (a < length (now names)) × (a < length (now counts)) ⌝ }
+    ensures { λ r. ⌜ r ≡ sameBlock (record { name = name; count = count }) (blockAt (now (names .entry)) (now (counts .entry)) a) ⌝ }
 {
-    (names[a] == names[b]) & (counts[a] == counts[b])
+    (name == names[a]) & (count == counts[a])
 }
 
 // How many of the k blocks at a and the k blocks at b are alike before two differ.
-fn shared_blocks(names: &[u64], counts: &[u16], a: usize, b: usize, k: usize) -> usize
+fn shared_blocks(names: &[u64], counts: &[u16], mut a: usize, mut b: usize, k: usize) -> usize
     requires { ⌜ TwoLogs (now names) (now counts) a b k ⌝ }
     ensures { λ r. ⌜ r ≡ sharedLength (logAt (now (names .entry)) (now (counts .entry)) a k) (logAt (now (names .entry)) (now (counts .entry)) b k) ⌝ }
 {
-    let mut left = k;
-    let mut p = a;
-    let mut q = b;
-    while 0 < left {
-        if same_block(names, counts, p, q) {
-            p += 1;
-            q += 1;
-            left -= 1;
+    let mut i = 0;
+    while i < k {
+        if is_block(names, counts, b, names[a], counts[a]) {
+            a += 1;
+            b += 1;
+            i += 1;
         } else {
-            return k - left;
+            return i;
         }
     }
-    k
+    i
 }
 
 // The log of x blocks at a is a prefix of the log of y blocks at b. False where one of them is no log.
 pub fn is_prefix(names: &[u64], counts: &[u16], a: usize, x: usize, b: usize, y: usize) -> bool
     ensures { λ r. ⌜ r ≡ prefixAt (now (names .entry)) (now (counts .entry)) a x b y ⌝ }
 {
-    if is_within(names, counts, a, x) & is_within(names, counts, b, y) {
-        if y < x {
-            return false;
-        }
+    let m = names.len();
+    let n = counts.len();
+    if (is_within(m, n, a, x) & is_within(m, n, b, y)) & (x <= y) {
         return shared_blocks(names, counts, a, b, x) == x;
     }
     false
@@ -71,7 +71,9 @@ pub fn is_prefix(names: &[u64], counts: &[u16], a: usize, x: usize, b: usize, y:
 pub fn shared(names: &[u64], counts: &[u16], a: usize, x: usize, b: usize, y: usize) -> usize
     ensures { λ r. ⌜ (r ≡ sharedAt (now (names .entry)) (now (counts .entry)) a x b y) × (r ≤ mostBlocks) ⌝ }
 {
-    if is_within(names, counts, a, x) & is_within(names, counts, b, y) {
+    let m = names.len();
+    let n = counts.len();
+    if is_within(m, n, a, x) & is_within(m, n, b, y) {
         if x <= y {
             return shared_blocks(names, counts, a, b, x);
         }
@@ -98,29 +100,19 @@ pub fn holds_log(s: &[u8]) -> bool
     (k <= MOST_BLOCKS) & (HEAD_LENGTH + BLOCK_WIDTH * k <= s.len())
 }
 
-// The block whose name stands at byte p and whose count stands at byte q is the block at place a.
-fn block_matches(s: &[u8], p: usize, q: usize, names: &[u64], counts: &[u16], a: usize) -> bool
-    requires { ⌜ BytesAndBlock (now s) (now names) (now counts) p q a ⌝ }
-    ensures { λ r. ⌜ r ≡ sameBlock (record { name = numberAt nameWidth (now (s .entry)) p; count = numberAt countWidth (now (s .entry)) q }) (blockAt (now (names .entry)) (now (counts .entry)) a) ⌝ }
-{
-    (u64_at(s, p) == names[a]) & (u16_at(s, q) == counts[a])
-}
-
 // The k blocks in the bytes are the k blocks at place a.
-fn blocks_match(s: &[u8], names: &[u64], counts: &[u16], a: usize, k: usize) -> bool
+fn blocks_match(s: &[u8], names: &[u64], counts: &[u16], mut a: usize, mut k: usize) -> bool
     requires { ⌜ BytesAndLog (now s) (now names) (now counts) a k ⌝ }
     ensures { λ r. ⌜ r ≡ sameLog (blocksIn (now (s .entry)) k) (logAt (now (names .entry)) (now (counts .entry)) a k) ⌝ }
 {
-    let mut left = k;
     let mut p = HEAD_LENGTH;
     let mut q = HEAD_LENGTH + NAME_WIDTH * k;
-    let mut at = a;
-    while 0 < left {
-        if block_matches(s, p, q, names, counts, at) {
+    while 0 < k {
+        if is_block(names, counts, a, u64_at(s, p), u16_at(s, q)) {
             p += NAME_WIDTH;
             q += COUNT_WIDTH;
-            at += 1;
-            left -= 1;
+            a += 1;
+            k -= 1;
         } else {
             return false;
         }
@@ -132,70 +124,46 @@ fn blocks_match(s: &[u8], names: &[u64], counts: &[u16], a: usize, k: usize) -> 
 pub fn matches(bytes: &[u8], names: &[u64], counts: &[u16], a: usize, x: usize) -> bool
     ensures { λ r. ⌜ r ≡ matchesAt (now (bytes .entry)) (now (names .entry)) (now (counts .entry)) a x ⌝ }
 {
-    if holds_log(bytes) & is_within(names, counts, a, x) {
-        if count_in(bytes) == x {
-            return blocks_match(bytes, names, counts, a, x);
-        }
-        return false;
+    if (holds_log(bytes) & is_within(names.len(), counts.len(), a, x)) & (count_in(bytes) == x) {
+        return blocks_match(bytes, names, counts, a, x);
     }
     false
 }
 
-// The k blocks in the bytes, filed from place a on.
-fn file_blocks(names: &mut [u64], counts: &mut [u16], a: usize, s: &[u8], k: usize)
-    requires { ⌜ BytesAndLog (now s) (now names) (now counts) a k ⌝ }
-    ensures { λ _. ⌜ (now (names .exit) ≡ put (now (names .entry)) a (namesIn (now (s .entry)) k)) × (now (counts .exit) ≡ put (now (counts .entry)) a (countsIn (now (s .entry)) k)) ⌝ }
-{
-    let mut left = k;
-    let mut p = HEAD_LENGTH;
-    let mut q = HEAD_LENGTH + NAME_WIDTH * k;
-    let mut at = a;
-    while 0 < left {
-        names[at] = u64_at(s, p);
-        counts[at] = u16_at(s, q);
-        p += NAME_WIDTH;
-        q += COUNT_WIDTH;
-        at += 1;
-        left -= 1;
-    }
-}
-
 // The log in the message, filed from place a on. False, and nothing written, where there is no log or no room there.
-pub fn file(names: &mut [u64], counts: &mut [u16], a: usize, bytes: &[u8]) -> bool
+pub fn file(names: &mut [u64], counts: &mut [u16], mut a: usize, bytes: &[u8]) -> bool
     ensures { λ r. ⌜ Stores (fileOf (now (names .entry)) (now (counts .entry)) a (now (bytes .entry))) r (now (names .exit)) (now (counts .exit)) ⌝ }
 {
-    let k = count_in(bytes);
-    if holds_log(bytes) & is_within(names, counts, a, k) {
-        file_blocks(names, counts, a, bytes, k);
+    let mut k = count_in(bytes);
+    if holds_log(bytes) & is_within(names.len(), counts.len(), a, k) {
+        let mut p = HEAD_LENGTH;
+        let mut q = HEAD_LENGTH + NAME_WIDTH * k;
+        while 0 < k {
+            names[a] = u64_at(bytes, p);
+            counts[a] = u16_at(bytes, q);
+            p += NAME_WIDTH;
+            q += COUNT_WIDTH;
+            a += 1;
+            k -= 1;
+        }
         return true;
     }
     false
 }
 
-// The k blocks at a, which stand before b, copied to b.
-fn copy_blocks(names: &mut [u64], counts: &mut [u16], a: usize, b: usize, k: usize)
-    requires { ⌜ Apart (now names) (now counts) a b k ⌝ }
-    ensures { λ _. ⌜ (now (names .exit) ≡ put (now (names .entry)) b (part (now (names .entry)) a k)) × (now (counts .exit) ≡ put (now (counts .entry)) b (part (now (counts .entry)) a k)) ⌝ }
-{
-    let mut left = k;
-    let mut p = a;
-    let mut q = b;
-    while 0 < left {
-        names[q] = names[p];
-        counts[q] = counts[p];
-        p += 1;
-        q += 1;
-        left -= 1;
-    }
-}
-
 // The log of k blocks at a, copied to b. False, and nothing written, where it does not end at or before b, is no log or has no
 // room there.
-pub fn copy(names: &mut [u64], counts: &mut [u16], a: usize, b: usize, k: usize) -> bool
+pub fn copy(names: &mut [u64], counts: &mut [u16], mut a: usize, mut b: usize, mut k: usize) -> bool
     ensures { λ r. ⌜ Stores (copyOf (now (names .entry)) (now (counts .entry)) a b k) r (now (names .exit)) (now (counts .exit)) ⌝ }
 {
-    if fits(a, k, b) & is_within(names, counts, b, k) {
-        copy_blocks(names, counts, a, b, k);
+    if fits(a, k, b) & is_within(names.len(), counts.len(), b, k) {
+        while 0 < k {
+            names[b] = names[a];
+            counts[b] = counts[a];
+            a += 1;
+            b += 1;
+            k -= 1;
+        }
         return true;
     }
     false

@@ -9,10 +9,10 @@ use Rattle.message.proofs.number.put_number.Statement.{statement}
 use Rattle.message.proofs.number.put_number.Tie as tie
 
 abbrev Inv-loop : tie.InvT-loop
-Inv-loop out₀ at x w left₀ p₀ y₀ out left p y = (p + left ≤ length out) × (length out ≡ length out₀) × (put out₀ at (bytesFor w x) ≡ put out p (bytesFor left y))
+Inv-loop out₀ at₀ x₀ w₀ out at x w = (at + w ≤ length out) × (length out ≡ length out₀) × (put out₀ at₀ (bytesFor w₀ x₀) ≡ put out at (bytesFor w x))
 
 abbrev μ-loop : tie.MeasureT-loop
-μ-loop out₀ at x w left₀ p₀ y₀ out left p y = left
+μ-loop out₀ at₀ x₀ w₀ out at x w = w
 
 loop-holds : tie.Need-loop-holds Inv-loop μ-loop
 loop-holds c = (search needs, refl, refl)
@@ -23,11 +23,11 @@ cast-out c = search needs
 slice-write-out : tie.Need-slice-write-out Inv-loop μ-loop
 slice-write-out c = search needs
 
-add-p : tie.Need-add-p Inv-loop μ-loop
-add-p c = search needs
+add-at : tie.Need-add-at Inv-loop μ-loop
+add-at c = search needs
 
-sub-left : tie.Need-sub-left Inv-loop μ-loop
-sub-left c = search needs
+sub-w : tie.Need-sub-w Inv-loop μ-loop
+sub-w c = search needs
 
 loop-less : tie.Need-loop-less Inv-loop μ-loop
 loop-less c = search needs
@@ -50,8 +50,8 @@ put-number-spec =
     loop-holds
     cast-out
     slice-write-out
-    add-p
-    sub-left
+    add-at
+    sub-w
     loop-less
     loop-again
     same-length

@@ -48,11 +48,11 @@ returns-6 c = search read-6
 shared-slice-read-if7 : tie.Need-shared-slice-read-if7
 shared-slice-read-if7 c = search needs
 
-u64-at-requires : tie.Need-u64-at-requires
-u64-at-requires c κs = search needs
-
 returns-7 : tie.Need-returns-7
 returns-7 c = search read-log
+
+u64-at-requires : tie.Need-u64-at-requires
+u64-at-requires c κs = search needs
 
 returns-8 : tie.Need-returns-8
 returns-8 c = search read-proposal
@@ -76,6 +76,6 @@ read-spec =
     zero-named-requires
     returns-6
     shared-slice-read-if7
-    u64-at-requires
     returns-7
+    u64-at-requires
     returns-8)

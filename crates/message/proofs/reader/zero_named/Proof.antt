@@ -13,10 +13,10 @@ use Rattle.message.proofs.reader.zero_named.Lts as lts
 use Rattle.message.proofs.number.u64_at.Reads as u64-at-reads
 
 abbrev Inv-loop : tie.InvT-loop
-Inv-loop s k left₀ p₀ zero₀ left p zero = (p + 8 * left ≤ length s) × (anyZero (namesIn s k) ≡ (zero || anyZero (numbersAt 8 s p left)))
+Inv-loop s k₀ p₀ zero₀ k p zero = (p + 8 * k ≤ length s) × (anyZero (namesIn s k₀) ≡ (zero || anyZero (numbersAt 8 s p k)))
 
 abbrev μ-loop : tie.MeasureT-loop
-μ-loop s k left₀ p₀ zero₀ left p zero = left
+μ-loop s k₀ p₀ zero₀ k p zero = k
 
 loop-holds : tie.Need-loop-holds Inv-loop μ-loop
 loop-holds c = (search needs, refl)
@@ -27,8 +27,8 @@ u64-at-requires c κs = search needs
 add-p : tie.Need-add-p Inv-loop μ-loop
 add-p c = search needs
 
-sub-left : tie.Need-sub-left Inv-loop μ-loop
-sub-left c = search needs
+sub-k : tie.Need-sub-k Inv-loop μ-loop
+sub-k c = search needs
 
 loop-less : tie.Need-loop-less Inv-loop μ-loop
 loop-less c = search needs
@@ -48,7 +48,7 @@ zero-named-spec =
     loop-holds
     u64-at-requires
     add-p
-    sub-left
+    sub-k
     loop-less
     loop-again
     returns)

@@ -1,9 +1,5 @@
-use Rattle.message.proofs.StoreLaws.{match-on, match-off, match-end}
-use Prim.Native.Nat.{_≤_, _+_, _*_}
-use mathlib.Core.Path.{_≡_, refl}
-use lib.ListN.{length}
-use Rattle.message.specs.Logs.{sameLog, inStep}
-use Rattle.message.specs.Numbers.{numbersAt}
+use Rattle.message.proofs.StoreLaws.{Matching, match-starts, match-on, match-off, match-end}
+use Rattle.message.specs.Logs.{sameLog}
 use Rattle.message.specs.Message.{blocksIn}
 use Rattle.message.specs.Store.{logAt}
 use borrow.Author.Needs.{needs}
@@ -11,10 +7,10 @@ use Rattle.message.proofs.store.blocks_match.Statement.{statement}
 use Rattle.message.proofs.store.blocks_match.Tie as tie
 
 abbrev Inv-loop : tie.InvT-loop
-Inv-loop s names counts a k left₀ p₀ q₀ at₀ left p q at = ((p + 8 * left ≤ length s) × (q + 2 * left ≤ length s)) × (((at + left ≤ length names) × (at + left ≤ length counts)) × (sameLog (blocksIn s k) (logAt names counts a k) ≡ sameLog (inStep (numbersAt 8 s p left) (numbersAt 2 s q left)) (logAt names counts at left)))
+Inv-loop s names counts a₀ k₀ p₀ q₀ a k p q = Matching (sameLog (blocksIn s k₀) (logAt names counts a₀ k₀)) s names counts p q a k
 
 abbrev μ-loop : tie.MeasureT-loop
-μ-loop s names counts a k left₀ p₀ q₀ at₀ left p q at = left
+μ-loop s names counts a₀ k₀ p₀ q₀ a k p q = k
 
 mul-q : tie.Need-mul-q Inv-loop μ-loop
 mul-q c = search needs
@@ -23,10 +19,16 @@ add-q : tie.Need-add-q Inv-loop μ-loop
 add-q c = search needs
 
 loop-holds : tie.Need-loop-holds Inv-loop μ-loop
-loop-holds c = ((search needs, search needs), ((search needs, search needs), refl))
+loop-holds c = match-starts _ _ _ _ _ (c .before .before .before .pre)
 
-block-matches-requires : tie.Need-block-matches-requires Inv-loop μ-loop
-block-matches-requires c κs = search needs
+u64-at-requires : tie.Need-u64-at-requires Inv-loop μ-loop
+u64-at-requires c κs = search needs
+
+u16-at-requires : tie.Need-u16-at-requires Inv-loop μ-loop
+u16-at-requires c κs = search needs
+
+is-block-requires : tie.Need-is-block-requires Inv-loop μ-loop
+is-block-requires c κs = search needs
 
 add-p : tie.Need-add-p Inv-loop μ-loop
 add-p c = search needs
@@ -34,23 +36,23 @@ add-p c = search needs
 add-q-2 : tie.Need-add-q-2 Inv-loop μ-loop
 add-q-2 c = search needs
 
-add-at : tie.Need-add-at Inv-loop μ-loop
-add-at c = search needs
+add-a : tie.Need-add-a Inv-loop μ-loop
+add-a c = search needs
 
-sub-left : tie.Need-sub-left Inv-loop μ-loop
-sub-left c = search needs
+sub-k : tie.Need-sub-k Inv-loop μ-loop
+sub-k c = search needs
 
 loop-less : tie.Need-loop-less Inv-loop μ-loop
 loop-less c = search needs
 
 loop-again : tie.Need-loop-again Inv-loop μ-loop
-loop-again c = ((search needs, search needs), ((search needs, search needs), search match-on))
+loop-again c = match-on (c .before .before .before .before .before .loop .inv) (c .before .before .before .before .loop-test .taken) (c .before .before .before .u64-at .ensures) (c .before .before .u16-at .ensures) (c .before .is-block .ensures) (c .if1 .taken)
 
 returns : tie.Need-returns Inv-loop μ-loop
-returns c = search match-off
+returns c = match-off (c .before .before .before .before .before .loop .inv) (c .before .before .before .before .loop-test .taken) (c .before .before .before .u64-at .ensures) (c .before .before .u16-at .ensures) (c .before .is-block .ensures) (c .if1 .left)
 
 returns-2 : tie.Need-returns-2 Inv-loop μ-loop
-returns-2 c = search match-end
+returns-2 c = match-end (c .before .loop .inv) (c .loop-test .left)
 
 pub blocks-match-spec : {M : Type 1} → statement M
 blocks-match-spec =
@@ -61,11 +63,13 @@ blocks-match-spec =
     mul-q
     add-q
     loop-holds
-    block-matches-requires
+    u64-at-requires
+    u16-at-requires
+    is-block-requires
     add-p
     add-q-2
-    add-at
-    sub-left
+    add-a
+    sub-k
     loop-less
     loop-again
     returns

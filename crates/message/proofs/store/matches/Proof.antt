@@ -1,5 +1,4 @@
-use native.Mathlib.Omega.{arith}
-use Rattle.message.proofs.StoreLaws.{match-outside, match-asks, match-is, match-unlike}
+use Rattle.message.proofs.StoreLaws.{match-asks, match-is, match-not}
 use borrow.Author.Needs.{needs}
 use Rattle.message.proofs.store.matches.Statement.{statement}
 use Rattle.message.proofs.store.matches.Tie as tie
@@ -14,16 +13,13 @@ count-in-requires : tie.Need-count-in-requires
 count-in-requires c κs = search needs
 
 blocks-match-requires : tie.Need-blocks-match-requires
-blocks-match-requires c κs = match-asks _ _ _ _ _ _ _ (c .before .before .before .before .holds-log .ensures) (c .before .before .before .is-within .ensures) _ (c .before .count-in .ensures .0) (c .before .before .if1 .taken) (omega arith)
+blocks-match-requires c κs = match-asks (c .before .before .before .before .before .before .before .args .bytes .now) (c .before .before .before .before .before .before .before .args .names .now) (c .before .before .before .before .before .before .before .args .counts .now) (c .before .before .before .before .before .before .before .args .a) (c .before .before .before .before .before .before .before .args .x) _ _ (c .before .before .before .holds-log .ensures) (c .before .before .is-within .ensures) _ (c .before .count-in .ensures .0) (c .if1 .taken)
 
 returns : tie.Need-returns
-returns c = search match-is
+returns c = match-is (c .before .before .before .before .before .before .before .before .args .bytes .now) (c .before .before .before .before .before .before .before .before .args .names .now) (c .before .before .before .before .before .before .before .before .args .counts .now) (c .before .before .before .before .before .before .before .before .args .a) (c .before .before .before .before .before .before .before .before .args .x) _ _ (c .before .before .before .before .holds-log .ensures) (c .before .before .before .is-within .ensures) _ (c .before .before .count-in .ensures .0) _ (c .before .if1 .taken) (c .blocks-match .ensures)
 
 returns-2 : tie.Need-returns-2
-returns-2 c = search match-unlike
-
-returns-3 : tie.Need-returns-3
-returns-3 c = search match-outside
+returns-2 c = match-not (c .before .before .before .before .before .before .before .args .bytes .now) (c .before .before .before .before .before .before .before .args .names .now) (c .before .before .before .before .before .before .before .args .counts .now) (c .before .before .before .before .before .before .before .args .a) (c .before .before .before .before .before .before .before .args .x) _ _ (c .before .before .before .holds-log .ensures) (c .before .before .is-within .ensures) _ (c .before .count-in .ensures .0) (c .if1 .left)
 
 pub matches-spec : {M : Type 1} → statement M
 matches-spec =
@@ -34,5 +30,4 @@ matches-spec =
     count-in-requires
     blocks-match-requires
     returns
-    returns-2
-    returns-3)
+    returns-2)

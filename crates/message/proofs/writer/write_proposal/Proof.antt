@@ -1,4 +1,5 @@
-use Rattle.message.proofs.WriterLaws.{room-of, message-done, message-not, proposal-full}
+use Rattle.message.proofs.WriterLaws.{block-room, proposal-full, proposal-done, proposal-not}
+use native.Mathlib.Omega.{arith}
 use borrow.Author.Needs.{needs}
 use Rattle.message.proofs.writer.write_proposal.Statement.{statement}
 use Rattle.message.proofs.writer.write_proposal.Tie as tie
@@ -6,35 +7,55 @@ use Rattle.message.proofs.writer.write_proposal.Tie as tie
 returns : tie.Need-returns
 returns c = search proposal-full
 
-add-has-room : tie.Need-add-has-room
-add-has-room c = search needs
+add-write-first : tie.Need-add-write-first
+add-write-first c = search needs
 
-has-room-requires : tie.Need-has-room-requires
-has-room-requires c κs = search needs
+write-first-requires : tie.Need-write-first-requires
+write-first-requires c κs = search needs
 
-put-proposal-requires : tie.Need-put-proposal-requires
-put-proposal-requires c κs = search room-of
+mul-p : tie.Need-mul-p
+mul-p c = search needs
+
+add-p : tie.Need-add-p
+add-p c = search needs
+
+add-put-block : tie.Need-add-put-block
+add-put-block c = search needs
+
+mul-put-block : tie.Need-mul-put-block
+mul-put-block c = search needs
+
+add-put-block-2 : tie.Need-add-put-block-2
+add-put-block-2 c = search needs
+
+put-block-requires : tie.Need-put-block-requires
+put-block-requires c κs = omega (arith, block-room (c .before .before .before .before .write-first .ensures) (c .before .if2 .taken))
 
 same-length : tie.Need-same-length
 same-length c = search needs
 
 returns-2 : tie.Need-returns-2
-returns-2 c = search message-done
+returns-2 c = search proposal-done
 
 same-length-2 : tie.Need-same-length-2
 same-length-2 c = search needs
 
 returns-3 : tie.Need-returns-3
-returns-3 c = search message-not
+returns-3 c = search proposal-not
 
 pub write-proposal-spec : {M : Type 1} → statement M
 write-proposal-spec =
     tie.close
     (tie.spec
     returns
-    add-has-room
-    has-room-requires
-    put-proposal-requires
+    add-write-first
+    write-first-requires
+    mul-p
+    add-p
+    add-put-block
+    mul-put-block
+    add-put-block-2
+    put-block-requires
     same-length
     returns-2
     same-length-2
