@@ -10,13 +10,12 @@ use native.Mathlib.Nat.{mul-suc}
 use lib.ListN.{length, getD, set, length-set}
 use borrow.Author.Tests.{le-leb, lt-leb, leb-true, leb-false}
 use lib.Seq.{getD-set-other}
-use Rattle.message.specs.Limits.{nameWidth, countWidth}
 use Rattle.message.specs.Choice.{anyOf}
 use Rattle.message.specs.Message.{anyZero}
 use Rattle.message.specs.Numbers.{part, put, numberAt, numbersAt, bytesFor, bytesForEach}
-use Rattle.message.specs.Asks.{BlocksFit, withBlocks}
-use Rattle.message.proofs.PartLaws.{length-part, put-append, put-swap}
-use Rattle.message.proofs.NumberLaws.{length-bytes, length-bytes-each}
+use Rattle.message.specs.Asks.{Fits}
+use Rattle.message.proofs.PartLaws.{length-put, put-append}
+use Rattle.message.proofs.NumberLaws.{length-bytes}
 
 -- ---- numbers by their bytes
 
@@ -99,10 +98,7 @@ module _ (w : ℕ) (z b : Bool) (s : List ℕ) (p left : ℕ) (e : z ≡ (b || a
       let l : left ≡ 0 = omega arith in
       or-last b ∙ sym (e ∙ ap (λ (k : ℕ). b || anyZero (numbersAt w s p k)) l)
 
--- ---- writing blocks: the names from byte p on, the counts from byte q on
-
-pub put-both : (l o o′ : List ℕ) (p q : ℕ) (xs ys : List ℕ) → o ≡ put l p xs → o′ ≡ put o q ys → o′ ≡ put (put l p xs) q ys
-put-both l o o′ p q xs ys e f = f ∙ ap (λ (t : List ℕ). put t q ys) e
+-- ---- writing numbers, w bytes each: the k of ns from place a on, from byte p on
 
 put-number-step : (w : ℕ) (l ns : List ℕ) (p a k : ℕ) → 0 < k
     → put l p (bytesForEach w (part ns a k)) ≡ put (put l p (bytesFor w (getD ns a 0))) (p + w) (bytesForEach w (part ns (a + 1) (k - 1)))
@@ -113,34 +109,34 @@ put-number-step w l ns p a k h =
     ∙ put-append l p (bytesFor w (getD ns a 0)) (bytesForEach w (part ns (a + 1) (k - 1)))
     ∙ ap (λ (j : ℕ). put (put l p (bytesFor w (getD ns a 0))) (p + j) (bytesForEach w (part ns (a + 1) (k - 1)))) (length-bytes w (getD ns a 0))
 
--- z is the buffer with all of them, o with the first
-module _ (z l names counts : List ℕ) (p q a k : ℕ) (e : z ≡ withBlocks l names counts p q a k) where
-  pub blocks-next : (o : List ℕ) → BlocksFit l names counts p q a k → 0 < k → o ≡ put (put l p (bytesFor nameWidth (getD names a 0))) q (bytesFor countWidth (getD counts a 0))
-      → z ≡ withBlocks o names counts (p + nameWidth) (q + countWidth) (a + 1) (k - 1)
-  blocks-next o f h m =
-      let n = put l p (bytesFor nameWidth (getD names a 0)) in
-      let ns = bytesForEach nameWidth (part names (a + 1) (k - 1)) in
-      let c = bytesFor countWidth (getD counts a 0) in
-      let cs = bytesForEach countWidth (part counts (a + 1) (k - 1)) in
-      let b = f .before in
-      let r : length ns ≡ nameWidth * (k - 1) = length-bytes-each nameWidth (part names (a + 1) (k - 1)) ∙ ap (λ (j : ℕ). nameWidth * j) (length-part names (a + 1) (k - 1)) in
-      e
-      ∙ ap (λ (t : List ℕ). put t q (bytesForEach countWidth (part counts a k))) (put-number-step nameWidth l names p a k h)
-      ∙ put-number-step countWidth (put n (p + nameWidth) ns) counts q a k h
-      ∙ ap (λ (t : List ℕ). put t (q + countWidth) cs) (put-swap n (p + nameWidth) ns q c (omega arith) ∙ ap (λ (t : List ℕ). put t (p + nameWidth) ns) (sym m))
+pub record Putting (w : ℕ) (ns l₀ z l : List ℕ) (p a k : ℕ) : Type 0 where
+  pub fits : Fits w l ns p a k
+  pub same : length l ≡ length l₀
+  pub rest : z ≡ put l p (bytesForEach w (part ns a k))
 
-  pub blocks-end : k ≤ 0 → l ≡ z
+pub put-starts : {w : ℕ} {l ns : List ℕ} {p a k : ℕ} → Fits w l ns p a k → Putting w ns l (put l p (bytesForEach w (part ns a k))) l p a k
+put-starts f = record { fits = f; same = refl; rest = refl }
+
+-- k numbers of w bytes, one and the others
+one-less : (w k : ℕ) → 0 < k → w * k ≡ w + w * (k - 1)
+one-less w k h = let e : k ≡ suc (k - 1) = omega arith in ap (λ (j : ℕ). w * j) e ∙ mul-suc w (k - 1) ∙ omega arith
+
+module _ {w : ℕ} {ns l₀ z l : List ℕ} {p a k : ℕ} (f : Putting w ns l₀ z l p a k) where
+  pub put-next : {l′ : List ℕ} → 0 < k → l′ ≡ put l p (bytesFor w (getD ns a 0)) → Putting w ns l₀ z l′ (p + w) (a + 1) (k - 1)
+  put-next {l′} h q =
+      let r = f .fits .room in
+      let i = f .fits .inList in
+      let t = one-less w k h in
+      let n : length l′ ≡ length l = ap (λ (m : List ℕ). length m) q ∙ length-put l p (bytesFor w (getD ns a 0)) in
+      record {
+        fits = record { room = omega arith; inList = omega arith };
+        same = n ∙ f .same;
+        rest = f .rest ∙ put-number-step w l ns p a k h ∙ rw q;
+      }
+
+  pub put-end : k ≤ 0 → l ≡ z
   unfolding put part bytesForEach
-  blocks-end h = let f : k ≡ 0 = omega arith in sym (e ∙ ap (withBlocks l names counts p q a) f)
-
-pub blocks-fit : (l l′ names counts : List ℕ) (p q a k : ℕ) → BlocksFit l names counts p q a k → length l′ ≡ length l → 0 < k
-    → BlocksFit l′ names counts (p + nameWidth) (q + countWidth) (a + 1) (k - 1)
-blocks-fit l l′ names counts p q a k f s h =
-    let b = f .before in
-    let r = f .room in
-    let n = f .inNames in
-    let c = f .inCounts in
-    record { inNames = omega arith; inCounts = omega arith; before = omega arith; room = omega arith }
+  put-end h = let g : k ≡ 0 = omega arith in sym (f .rest ∙ ap (λ (j : ℕ). put l p (bytesForEach w (part ns a j))) g)
 
 -- ---- storing numbers read from bytes, w bytes each: k of them from byte p on, to place a on
 
@@ -154,8 +150,7 @@ module _ {w : ℕ} {s l₀ z l : List ℕ} {p a k : ℕ} (f : Storing w s l₀ z
   pub store-next : {x : ℕ} → 0 < k → x ≡ numberAt w s p → Storing w s l₀ z (set l a x) (p + w) (a + 1) (k - 1)
   unfolding put
   store-next {x} h q =
-      let e : k ≡ suc (k - 1) = omega arith in
-      let t : w * k ≡ w + w * (k - 1) = ap (λ (j : ℕ). w * j) e ∙ mul-suc w (k - 1) ∙ omega arith in
+      let t = one-less w k h in
       let b = f .bytes in
       let r = f .room in
       let n = length-set l a x in

@@ -12,9 +12,9 @@ use Rattle.message.specs.Numbers.{part, put, bytesFor, bytesForEach}
 use Rattle.message.specs.Logs.{Block, namesOf, countsOf}
 use Rattle.message.specs.Message.{Content, Meaning, logKind, proposalKind, messageBytes, bytesOf}
 use Rattle.message.specs.Store.{logAt, within, roomFor, Writes, writeOf, logFrom, writeLogOf, proposalFrom}
-use Rattle.message.specs.Asks.{BlocksFit, withBlocks, headOf, WritesFirst}
+use Rattle.message.specs.Asks.{Fits, withFirst, headOf, WritesFirst}
 use Rattle.message.proofs.LogLaws.{names-append, counts-append}
-use Rattle.message.proofs.ListedLaws.{length-at, names-at, counts-at, within-of}
+use Rattle.message.proofs.ListedLaws.{length-at, names-at, counts-at, Within, within-of}
 use Rattle.message.proofs.PartLaws.{length-part, length-put, put-append, put-swap}
 use Rattle.message.proofs.NumberLaws.{length-bytes, length-bytes-each, bytes-each-append}
 
@@ -75,24 +75,27 @@ message-written m kind priority o o₀ o₁ o₂ e₀ e₁ e₂ =
     ∙ ap (λ (j : ℕ). put (put o 0 head) (0 + j) (ns ++ cs)) l
     ∙ put-append (put o 0 head) headLength ns cs))
 
-log-put : (names counts : List ℕ) (a k sender view : ℕ) (o o₀ o₁ : List ℕ) → o₀ ≡ put o 0 (headOf k sender logKind view 0)
-    → o₁ ≡ withBlocks o₀ names counts headLength (headLength + nameWidth * k) a k → o₁ ≡ put o 0 (bytesOf (logFrom names counts a k sender view))
+log-put : (names counts : List ℕ) (a k sender view : ℕ) (o o′ : List ℕ) → o′ ≡ withFirst o names counts a k k (headOf k sender logKind view 0)
+    → o′ ≡ put o 0 (bytesOf (logFrom names counts a k sender view))
 unfolding bytesOf
-log-put names counts a k sender view o o₀ o₁ e₀ e₁ =
+log-put names counts a k sender view o o′ e =
     let p = length-at names counts a k in
     let q = names-at names counts a k in
     let r = counts-at names counts a k in
     let l = numbers-length nameWidth k (part names a k) (length-part names a k) in
-    message-written (record { sender = sender; view = view; log = logAt names counts a k }) logKind 0 o o₀ (put o₀ headLength (bytesForEach nameWidth (part names a k))) o₁ (rw p e₀) (rw q refl) (rw (q, r, l) e₁)
+    let begun = put o 0 (headOf k sender logKind view 0) in
+    message-written (record { sender = sender; view = view; log = logAt names counts a k }) logKind 0 o begun (put begun headLength (bytesForEach nameWidth (part names a k))) o′ (rw p refl) (rw q refl) (rw (q, r, l) e)
 
 -- one block more: its name is written past the names, its count past the counts
-proposal-put : (names counts : List ℕ) (a k : ℕ) (block : Block) (sender view priority : ℕ) (o o₀ o₁ o₂ o₃ : List ℕ) → o₀ ≡ put o 0 (headOf (k + 1) sender proposalKind view priority)
-    → o₁ ≡ withBlocks o₀ names counts headLength (headLength + nameWidth * (k + 1)) a k
+proposal-put : (names counts : List ℕ) (a k : ℕ) (block : Block) (sender view priority : ℕ) (o o₁ o₂ o₃ : List ℕ)
+    → o₁ ≡ withFirst o names counts a k (k + 1) (headOf (k + 1) sender proposalKind view priority)
     → o₂ ≡ put o₁ (headLength + nameWidth * k) (bytesFor nameWidth (block .name))
-    → o₃ ≡ put o₂ (headLength + nameWidth * (k + 1) + countWidth * k) (bytesFor countWidth (block .count))
+    → o₃ ≡ put o₂ (headLength + nameWidth * k + nameWidth + countWidth * k) (bytesFor countWidth (block .count))
     → o₃ ≡ put o 0 (bytesOf (proposalFrom names counts a k block sender view priority))
 unfolding bytesOf namesOf countsOf
-proposal-put names counts a k block sender view priority o o₀ o₁ o₂ o₃ e₀ e₁ e₂ e₃ =
+proposal-put names counts a k block sender view priority o o₁ o₂ o₃ e₁ e₂ e₃ =
+    let o₀ = put o 0 (headOf (k + 1) sender proposalKind view priority) in
+    let e : headLength + nameWidth * k + nameWidth + countWidth * k ≡ headLength + nameWidth * (k + 1) + countWidth * k = omega arith in
     let L = logAt names counts a k in
     let ns = bytesForEach nameWidth (part names a k) in
     let cs = bytesForEach countWidth (part counts a k) in
@@ -111,8 +114,8 @@ proposal-put names counts a k block sender view priority o o₀ o₁ o₂ o₃ e
     ∙ sym (put-swap (put o₀ headLength ns) (headLength + nameWidth * k) x (headLength + nameWidth * (k + 1)) cs (omega arith))
     ∙ ap (λ (t : List ℕ). put t (headLength + nameWidth * (k + 1)) cs)
     (one-more nameWidth o₀ (put o₀ headLength ns) (put (put o₀ headLength ns) (headLength + nameWidth * k) x) names headLength a k (block .name) refl refl) in
-    let g = one-more countWidth named o₂ o₃ counts (headLength + nameWidth * (k + 1)) a k (block .count) f e₃ in
-    message-written (record { sender = sender; view = view; log = L ++ (block ∷ []) }) proposalKind priority o o₀ named o₃ (rw p e₀) (rw q refl) (rw (q, r, l) g)
+    let g = one-more countWidth named o₂ o₃ counts (headLength + nameWidth * (k + 1)) a k (block .count) f (e₃ ∙ ap (λ (j : ℕ). put o₂ j (bytesFor countWidth (block .count))) e) in
+    message-written (record { sender = sender; view = view; log = L ++ (block ∷ []) }) proposalKind priority o o₀ named o₃ (rw p refl) (rw q refl) (rw (q, r, l) g)
 
 -- ---- the head and the first blocks
 
@@ -122,6 +125,18 @@ room-long out names counts a k m h = rw (lt-leb m mostBlocks h)
 
 pub first-room : (out : List ℕ) (m : ℕ) (w : Bool) → (w && leb (headLength + blockWidth * m) (length out)) ≡ true → headLength + blockWidth * m ≤ length out
 first-room out m w t = leb-true (headLength + blockWidth * m) (length out) (and-eq-true-iff w (leb (headLength + blockWidth * m) (length out)) .0 t .1)
+
+-- o is the buffer with what was written so far
+module _ (out names counts : List ℕ) (a k m : ℕ) (w : Bool) (e : w ≡ within names counts a k) (t : (w && leb (headLength + blockWidth * m) (length out)) ≡ true)
+    (fewer : k ≤ m) (o : List ℕ) (l : length o ≡ length out) where
+  inside : Within names counts a k
+  inside = within-of names counts a k (sym e ∙ and-eq-true-iff w (leb (headLength + blockWidth * m) (length out)) .0 t .0)
+
+  pub first-names : Fits nameWidth o names headLength a k
+  first-names = let r = first-room out m w t in record { room = omega arith; inList = inside .inNames }
+
+  pub first-counts : Fits countWidth o counts (headLength + nameWidth * m) a k
+  first-counts = let r = first-room out m w t in record { room = omega arith; inList = inside .inCounts }
 
 module _ (out names counts : List ℕ) (a k m sender kind view priority : ℕ) where
   pub first-long : mostBlocks < m → WritesFirst out names counts a k m sender kind view priority false out
@@ -135,16 +150,9 @@ module _ (out names counts : List ℕ) (a k m sender kind view priority : ℕ) w
     pub first-not : (w && leb (headLength + blockWidth * m) (length out)) ≡ false → WritesFirst out names counts a k m sender kind view priority false out
     first-not t = record { answered = test false t; buffer = refl }
 
-    module _ (t : (w && leb (headLength + blockWidth * m) (length out)) ≡ true) where
-      pub first-fit : (o : List ℕ) → k ≤ m → length o ≡ length out → BlocksFit o names counts headLength (headLength + nameWidth * m) a k
-      first-fit o h l =
-          let r = first-room out m w t in
-          let i = within-of names counts a k (sym e ∙ and-eq-true-iff w (leb (headLength + blockWidth * m) (length out)) .0 t .0) in
-          record { inNames = i .inNames; inCounts = i .inCounts; before = omega arith; room = omega arith }
-
-      pub first-done : (o o′ : List ℕ) → o ≡ put out 0 (headOf m sender kind view priority) → o′ ≡ withBlocks o names counts headLength (headLength + nameWidth * m) a k
-          → WritesFirst out names counts a k m sender kind view priority true o′
-      first-done o o′ p q = record { answered = test true t; buffer = q ∙ ap (λ (l : List ℕ). withBlocks l names counts headLength (headLength + nameWidth * m) a k) p }
+    pub first-done : (o₀ o₁ o₂ : List ℕ) → (w && leb (headLength + blockWidth * m) (length out)) ≡ true → o₀ ≡ put out 0 (headOf m sender kind view priority) → o₁ ≡ put o₀ headLength (bytesForEach nameWidth (part names a k))
+        → o₂ ≡ put o₁ (headLength + nameWidth * m) (bytesForEach countWidth (part counts a k)) → WritesFirst out names counts a k m sender kind view priority true o₂
+    first-done o₀ o₁ o₂ t p q r = record { answered = test true t; buffer = r ∙ rw (q, p) }
 
 -- what is written has room for one block more
 pub block-room : {out names counts : List ℕ} {a k m sender kind view priority : ℕ} {r : Bool} {o : List ℕ} → WritesFirst out names counts a k m sender kind view priority r o
@@ -156,7 +164,7 @@ block-room {out} {names} {counts} {a} {k} {m} {sender} {kind} {view} {priority} 
     let h = leb-true (headLength + blockWidth * m) (length out) (q .1) in
     let begun = put out 0 (headOf m sender kind view priority) in
     let named = put begun headLength (bytesForEach nameWidth (part names a k)) in
-    let l : o ≡ put named (headLength + nameWidth * m) (bytesForEach countWidth (part counts a k)) = f .buffer ∙ rw t in
+    let l : o ≡ withFirst out names counts a k m (headOf m sender kind view priority) = f .buffer ∙ rw t in
     let x = ap (λ (s : List ℕ). length s) l in
     let y = length-put named (headLength + nameWidth * m) (bytesForEach countWidth (part counts a k)) in
     let z = length-put begun headLength (bytesForEach nameWidth (part names a k)) in
@@ -179,7 +187,7 @@ pub log-written : (out names counts : List ℕ) (a k sender view : ℕ) (r : Boo
     → Writes (writeLogOf out names counts a k sender view) r o
 log-written out names counts a k sender view false o f = message-not (roomFor out names counts a k k) out (logFrom names counts a k sender view) false (f .answered) o refl (f .buffer)
 log-written out names counts a k sender view true o f =
-    message-done (roomFor out names counts a k k) out (logFrom names counts a k sender view) true (f .answered) o refl (log-put names counts a k sender view out (put out 0 (headOf k sender logKind view 0)) o refl (f .buffer))
+    message-done (roomFor out names counts a k k) out (logFrom names counts a k sender view) true (f .answered) o refl (log-put names counts a k sender view out o (f .buffer))
 
 module _ (out names counts : List ℕ) (a k name count sender view priority : ℕ) where
   abbrev made : Meaning
@@ -192,12 +200,8 @@ module _ (out names counts : List ℕ) (a k name count sender view priority : �
     pub proposal-not : r ≡ false → Writes (writeOf (roomFor out names counts a k (k + 1)) out made) false o
     proposal-not t = message-not (roomFor out names counts a k (k + 1)) out made r (f .answered) o t (f .buffer ∙ rw t)
 
-    pub proposal-done : (o′ : List ℕ) → r ≡ true
-        → o′ ≡ put (put o (headLength + nameWidth * k) (bytesFor nameWidth name)) (headLength + nameWidth * k + nameWidth + countWidth * k) (bytesFor countWidth count)
-        → Writes (writeOf (roomFor out names counts a k (k + 1)) out made) true o′
-    proposal-done o′ t p =
-        let named = put o (headLength + nameWidth * k) (bytesFor nameWidth name) in
-        let e : headLength + nameWidth * k + nameWidth + countWidth * k ≡ headLength + nameWidth * (k + 1) + countWidth * k = omega arith in
-        message-done (roomFor out names counts a k (k + 1)) out made r (f .answered) o′ t
-        (proposal-put names counts a k (record { name = name; count = count }) sender view priority out (put out 0 (headOf (k + 1) sender proposalKind view priority)) o named o′ refl (f .buffer ∙ rw t) refl
-        (p ∙ ap (λ (j : ℕ). put named j (bytesFor countWidth count)) e))
+    pub proposal-done : (o₁ o₂ : List ℕ) → r ≡ true → o₁ ≡ put o (headLength + nameWidth * k) (bytesFor nameWidth name)
+        → o₂ ≡ put o₁ (headLength + nameWidth * k + nameWidth + countWidth * k) (bytesFor countWidth count) → Writes (writeOf (roomFor out names counts a k (k + 1)) out made) true o₂
+    proposal-done o₁ o₂ t p q =
+        message-done (roomFor out names counts a k (k + 1)) out made r (f .answered) o₂ t
+        (proposal-put names counts a k (record { name = name; count = count }) sender view priority out o o₁ o₂ (f .buffer ∙ rw t) p q)

@@ -1,12 +1,12 @@
 // Writing a message at the front of the outgoing buffer, from a log that stands in the two lent lists.
 ghost use mathlib.Core.List.{[], _∷_, _++_};
 ghost use mathlib.Core.Path.{_≡_};
-ghost use Prim.Native.Nat.{_+_, _≤_};
+ghost use Prim.Native.Nat.{_≤_};
 ghost use lib.ListN.{length};
 ghost use Rattle.message.specs.Limits.{headLength, nameWidth, countWidth};
-ghost use Rattle.message.specs.Numbers.{put, bytesFor};
+ghost use Rattle.message.specs.Numbers.{part, put, bytesFor, bytesForEach};
 ghost use Rattle.message.specs.Store.{Writes, writeLogOf, writeProposalOf};
-ghost use Rattle.message.specs.Asks.{BlocksFit, withBlocks, WritesFirst};
+ghost use Rattle.message.specs.Asks.{Fits, WritesFirst};
 use super::BLOCK_WIDTH;
 use super::COUNT_WIDTH;
 use super::HEAD_LENGTH;
@@ -38,32 +38,27 @@ fn put_head(out: &mut [u8], k: u8, sender: u8, kind: u8, view: u32, priority: u6
     put_number(out, 8, priority, 8);
 }
 
-// A block: its name from byte p on, and its count from byte q on.
-fn put_block(out: &mut [u8], p: usize, q: usize, name: u64, count: u16)
-    requires { ⌜ (p + nameWidth ≤ length (now out)) × (q + countWidth ≤ length (now out)) ⌝ }
-    ensures { λ _. ⌜ now (out .exit) ≡ put (put (now (out .entry)) p (bytesFor nameWidth name)) q (bytesFor countWidth count) ⌝ }
-{
-    put_number(out, p, name, NAME_WIDTH);
-    put_number(out, q, count as u64, COUNT_WIDTH);
-}
-
-// The k blocks from place a on: their names from byte p on, and their counts from byte q on.
-fn put_blocks(
-    out: &mut [u8],
-    mut p: usize,
-    mut q: usize,
-    names: &[u64],
-    counts: &[u16],
-    mut a: usize,
-    mut k: usize,
-)
-    requires { ⌜ BlocksFit (now out) (now names) (now counts) p q a k ⌝ }
-    ensures { λ _. ⌜ now (out .exit) ≡ withBlocks (now (out .entry)) (now (names .entry)) (now (counts .entry)) p q a k ⌝ }
+// The k names from place a on, from byte p on.
+fn put_names(out: &mut [u8], mut p: usize, names: &[u64], mut a: usize, mut k: usize)
+    requires { ⌜ Fits nameWidth (now out) (now names) p a k ⌝ }
+    ensures { λ _. ⌜ now (out .exit) ≡ put (now (out .entry)) p (bytesForEach nameWidth (part (now (names .entry)) a k)) ⌝ }
 {
     while 0 < k {
-        put_block(out, p, q, names[a], counts[a]);
+        put_number(out, p, names[a], NAME_WIDTH);
         p += NAME_WIDTH;
-        q += COUNT_WIDTH;
+        a += 1;
+        k -= 1;
+    }
+}
+
+// The k counts from place a on, from byte p on.
+fn put_counts(out: &mut [u8], mut p: usize, counts: &[u16], mut a: usize, mut k: usize)
+    requires { ⌜ Fits countWidth (now out) (now counts) p a k ⌝ }
+    ensures { λ _. ⌜ now (out .exit) ≡ put (now (out .entry)) p (bytesForEach countWidth (part (now (counts .entry)) a k)) ⌝ }
+{
+    while 0 < k {
+        put_number(out, p, counts[a] as u64, COUNT_WIDTH);
+        p += COUNT_WIDTH;
         a += 1;
         k -= 1;
     }
@@ -91,15 +86,8 @@ fn write_first(
     }
     if is_within(names.len(), counts.len(), a, k) & (HEAD_LENGTH + BLOCK_WIDTH * m <= out.len()) {
         put_head(out, m as u8, sender, kind, view, priority);
-        put_blocks(
-            out,
-            HEAD_LENGTH,
-            HEAD_LENGTH + NAME_WIDTH * m,
-            names,
-            counts,
-            a,
-            k,
-        );
+        put_names(out, HEAD_LENGTH, names, a, k);
+        put_counts(out, HEAD_LENGTH + NAME_WIDTH * m, counts, a, k);
         return true;
     }
     false
@@ -152,7 +140,9 @@ pub fn write_proposal(
         priority,
     ) {
         let p = HEAD_LENGTH + NAME_WIDTH * k;
-        put_block(out, p, p + NAME_WIDTH + COUNT_WIDTH * k, name, count);
+        let q = p + NAME_WIDTH + COUNT_WIDTH * k;
+        put_number(out, p, name, NAME_WIDTH);
+        put_number(out, q, count as u64, COUNT_WIDTH);
         return true;
     }
     false

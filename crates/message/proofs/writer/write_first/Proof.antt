@@ -1,11 +1,11 @@
-use Rattle.message.proofs.WriterLaws.{first-long, first-not, first-room, first-fit, first-done}
+use Rattle.message.proofs.WriterLaws.{first-long, first-room, first-names, first-counts, first-done, first-not}
 use native.Mathlib.Omega.{arith}
 use borrow.Author.Needs.{needs}
 use Rattle.message.proofs.writer.write_first.Statement.{statement}
 use Rattle.message.proofs.writer.write_first.Tie as tie
 
 returns : tie.Need-returns
-returns c = search first-long
+returns c = first-long _ _ _ _ _ _ _ _ _ _ (c .if1 .taken)
 
 is-within-requires : tie.Need-is-within-requires
 is-within-requires c κs = search needs
@@ -22,23 +22,26 @@ cast-put-head c = search needs
 put-head-requires : tie.Need-put-head-requires
 put-head-requires c κs = omega (arith, first-room (c .before .before .before .before .before .before .before .args .out .now) (c .before .before .before .before .before .before .before .args .m) (c .before .before .is-within .result) (c .before .if2 .taken))
 
-mul-put-blocks : tie.Need-mul-put-blocks
-mul-put-blocks c = search needs
+put-names-requires : tie.Need-put-names-requires
+put-names-requires c κs = first-names (c .before .before .before .before .before .before .before .before .before .before .before .args .out .now) (c .before .before .before .before .before .before .before .before .before .before .before .args .names .now) (c .before .before .before .before .before .before .before .before .before .before .before .args .counts .now) (c .before .before .before .before .before .before .before .before .before .before .before .args .a) (c .before .before .before .before .before .before .before .before .before .before .before .args .k) (c .before .before .before .before .before .before .before .before .before .before .before .args .m) _ (c .before .before .before .before .before .before .is-within .ensures) (c .before .before .before .before .before .if2 .taken) (c .before .before .before .before .before .before .before .before .before .before .before .pre) _ (omega arith)
 
-add-put-blocks : tie.Need-add-put-blocks
-add-put-blocks c = search needs
+mul-put-counts : tie.Need-mul-put-counts
+mul-put-counts c = search needs
 
-put-blocks-requires : tie.Need-put-blocks-requires
-put-blocks-requires c κs = search first-fit
+add-put-counts : tie.Need-add-put-counts
+add-put-counts c = search needs
+
+put-counts-requires : tie.Need-put-counts-requires
+put-counts-requires c κs = first-counts (c .before .before .before .before .before .before .before .before .before .before .before .before .before .before .before .args .out .now) (c .before .before .before .before .before .before .before .before .before .before .before .before .before .before .before .args .names .now) (c .before .before .before .before .before .before .before .before .before .before .before .before .before .before .before .args .counts .now) (c .before .before .before .before .before .before .before .before .before .before .before .before .before .before .before .args .a) (c .before .before .before .before .before .before .before .before .before .before .before .before .before .before .before .args .k) (c .before .before .before .before .before .before .before .before .before .before .before .before .before .before .before .args .m) _ (c .before .before .before .before .before .before .before .before .before .before .is-within .ensures) (c .before .before .before .before .before .before .before .before .before .if2 .taken) (c .before .before .before .before .before .before .before .before .before .before .before .before .before .before .before .pre) _ (omega arith)
 
 same-length : tie.Need-same-length
 same-length c = search needs
 
 returns-2 : tie.Need-returns-2
-returns-2 c = search first-done
+returns-2 c = first-done _ _ _ _ _ _ _ _ _ _ _ (c .before .before .before .before .before .before .before .before .before .before .before .before .before .before .if1 .left) (c .before .before .before .before .before .before .before .before .before .before .before .before .before .is-within .ensures) _ _ _ (c .before .before .before .before .before .before .before .before .before .before .before .before .if2 .taken) (c .before .before .before .before .before .before .before .before .before .before .put-head .ensures) (c .before .before .before .before .before .before .put-names .ensures) (c .before .before .put-counts .ensures)
 
 returns-3 : tie.Need-returns-3
-returns-3 c = search first-not
+returns-3 c = first-not _ _ _ _ _ _ _ _ _ _ _ (c .before .before .if1 .left) (c .before .is-within .ensures) (c .if2 .left)
 
 pub write-first-spec : {M : Type 1} → statement M
 write-first-spec =
@@ -50,9 +53,10 @@ write-first-spec =
     add-if2
     cast-put-head
     put-head-requires
-    mul-put-blocks
-    add-put-blocks
-    put-blocks-requires
+    put-names-requires
+    mul-put-counts
+    add-put-counts
+    put-counts-requires
     same-length
     returns-2
     returns-3)
