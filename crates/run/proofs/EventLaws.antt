@@ -15,6 +15,7 @@ use Rattle.bench.specs.Layout.{Lent}
 use Rattle.bench.specs.Calls.{Call, begin, receive, act, refused, done, State, Opening, Step}
 use Rattle.bench.specs.ByRecord.{openOf, beginOf, receiveOf, actOf}
 use Rattle.bench.specs.Answers.{stateOf, startReply, takenReply, madeReply, OpenGives, BeginGives, ReceiveGives, ActGives}
+use Rattle.calls.specs.Steps.{Leaves}
 use Rattle.bench.specs.declared.Bench.{Bench}
 use Rattle.bench.specs.declared.Start.{Start}
 use Rattle.bench.specs.declared.Start.the-variants as starts
@@ -25,11 +26,13 @@ use Rattle.bench.specs.declared.Made.the-variants as makings
 use Rattle.bench.specs.declared.Started.{Started}
 use Rattle.bench.specs.declared.Received.{Received}
 use Rattle.bench.specs.declared.Acted.{Acted}
+use Rattle.run.specs.declared.Answered.the-variants as answers
+use Rattle.run.specs.declared.Called.{Called}
 use Rattle.run.specs.declared.Offer.{Offer}
 use Rattle.run.specs.Texts.{ascii, decimal}
 use Rattle.run.specs.Roll.{mostRoll, misshapen, eventsOf, benchesOf, ownOf, kindAt, lengthAt, beginKind, receiveKind, freshBuffer, callAt, callsFrom, callsOf}
 use Rattle.run.specs.RollText.{madeText, markText, replyText, lineFor, lineOf, stepOf, linesOf, noRollText, firstLine, isDone, openedText, freshLists, textOf, WritesText}
-use Rattle.run.specs.RollSteps.{lineRoom, endText, startText, takenText, standText, actedText, offerAt, Puts, Remains, Prints}
+use Rattle.run.specs.RollSteps.{lineRoom, endText, startText, takenText, standText, actedText, answerText, offerAt, Puts, Remains, EventGives}
 use Rattle.run.proofs.TextLaws.{puts-then}
 
 -- ---- the line of a call, by the code's answer
@@ -63,37 +66,6 @@ acted-line (makings.Proposal k) t block priority buffer out e =
     (ap (λ (l : List ℕ). ascii "act proposal " ++ l) (stand-end (decimal k) (t .held .bench .decided) (t .held .bench .parted)))
 acted-line (makings.Refused k) t block priority buffer out e = rw (← e)
 
--- ---- a call made, and its line written
-
-module _ (t : Step) (ns cs : List ℕ) (at : ℕ) (l : List ℕ) (p : ℕ) (m : List ℕ) where
-  begin-prints : (r : Started) (beat : ℕ) → BeginGives t r ns cs → Puts (ascii "begin " ++ (decimal beat ++ startText (r .answer))) at l p m
-      → Prints (begin beat) t at l (r .bench) p ns cs m
-  begin-prints r beat g f = record {
-    bench = g .bench;
-    nameList = g .nameList;
-    countList = g .countList;
-    line = rw (← start-line (r .answer) t beat (g .answered)) f;
-  }
-
-  receive-prints : (r : Received) (bytes : List ℕ) → ReceiveGives t r ns cs → Puts (takenText (r .answer)) at l p m
-      → Prints (receive bytes) t at l (r .bench) p ns cs m
-  receive-prints r bytes g f = record {
-    bench = g .bench;
-    nameList = g .nameList;
-    countList = g .countList;
-    line = rw (← taken-line (r .answer) t bytes (g .answered)) f;
-  }
-
-  act-prints : (r : Acted) (block : Block) (priority : ℕ) (buffer out : List ℕ) → ActGives t r ns cs out
-      → Puts (actedText (r .bench .decided) (r .bench .parted) (r .answer)) at l p m
-      → Prints (act block priority buffer) t at l (r .bench) p ns cs m
-  act-prints r block priority buffer out g f = record {
-    bench = g .bench;
-    nameList = g .nameList;
-    countList = g .countList;
-    line = rw (← acted-line (r .answer) t block priority buffer out (g .answered)) (rw (g .bench) at f);
-  }
-
 -- ---- event i, by its kind
 
 pub offer-is : (s : List ℕ) (a n p c : ℕ) → n ≡ numberIn 8 s a → p ≡ numberIn 8 s (a + 8) → c ≡ numberIn 2 s (a + 16)
@@ -117,6 +89,42 @@ module _ (s : List ℕ) (i a : ℕ) where
       → callAt s i a ≡ act (record { name = o .name; count = o .count }) (o .priority) freshBuffer
   unfolding callAt offerAt
   call-act o u v e = rw (ne-eqb (kindAt s i) beginKind u, ne-eqb (kindAt s i) receiveKind v, e)
+
+-- ---- the call of event i, by what it gave
+
+module _ (s : List ℕ) (i a : ℕ) (x : State) (ns cs : List ℕ) where
+  gives : (c : Call) (r : Called) → callAt s i a ≡ c → Leaves (stepOf x c .held) (r .bench) ns cs
+      → answerText (stepOf x c .held .bench .decided) (stepOf x c .held .bench .parted) (r .answer) ≡ lineOf c (stepOf x c)
+      → EventGives (callAt s i a) x r ns cs
+  gives c r e f g = rw e (record { leaves = f; line = rw (f .bench) g })
+
+  pub begin-gives : (r : Started) (beat : ℕ) → kindAt s i ≡ beginKind → beat ≡ numberIn 4 s a → BeginGives (beginOf x beat) r ns cs
+      → EventGives (callAt s i a) x (record { answer = answers.Begun beat (r .answer); bench = r .bench }) ns cs
+  unfolding answerText
+  begin-gives r beat u v g =
+      gives (begin beat) (record { answer = answers.Begun beat (r .answer); bench = r .bench }) (call-begin s i a beat u v)
+      (record { bench = g .bench; nameList = g .nameList; countList = g .countList })
+      (start-line (r .answer) (beginOf x beat) beat (g .answered))
+
+  pub receive-gives : (r : Received) (k : ℕ) → (kindAt s i ≡ beginKind → ⊥) → kindAt s i ≡ receiveKind → k ≡ lengthAt s i
+      → ReceiveGives (receiveOf x (take (a + k - a) (drop a s))) r ns cs
+      → EventGives (callAt s i a) x (record { answer = answers.Taken (r .answer); bench = r .bench }) ns cs
+  unfolding answerText
+  receive-gives r k u v e g =
+      let bytes = take (a + k - a) (drop a s) in
+      gives (receive bytes) (record { answer = answers.Taken (r .answer); bench = r .bench }) (call-receive s i a k u v e)
+      (record { bench = g .bench; nameList = g .nameList; countList = g .countList })
+      (taken-line (r .answer) (receiveOf x bytes) bytes (g .answered))
+
+  pub act-gives : (r : Acted) (o : Offer) (out : List ℕ) → (kindAt s i ≡ beginKind → ⊥) → (kindAt s i ≡ receiveKind → ⊥) → o ≡ offerAt s a
+      → ActGives (actOf x (record { name = o .name; count = o .count }) (o .priority) freshBuffer) r ns cs out
+      → EventGives (callAt s i a) x (record { answer = answers.Acted (r .answer); bench = r .bench }) ns cs
+  unfolding answerText
+  act-gives r o out u v w g =
+      let block : Block = record { name = o .name; count = o .count } in
+      gives (act block (o .priority) freshBuffer) (record { answer = answers.Acted (r .answer); bench = r .bench }) (call-act s i a o u v w)
+      (record { bench = g .bench; nameList = g .nameList; countList = g .countList })
+      (acted-line (r .answer) (actOf x block (o .priority) freshBuffer) block (o .priority) freshBuffer out (g .answered))
 
 -- ---- the events, one after the other
 
@@ -148,46 +156,22 @@ remains-next z r l p xs ys q m f g = record {
 pub state-is : (b : Bench) (ns cs : List ℕ) (y : State) → b ≡ y .bench → ns ≡ y .lent .names → cs ≡ y .lent .counts → stateOf b ns cs ≡ y
 state-is b ns cs y e f g = rw (e, f, g)
 
-module _ (z : List ℕ) (end : ℕ) (l : List ℕ) (p : ℕ) (s : List ℕ) (i a e : ℕ) (b : Bench) (ns cs : List ℕ)
-    (left : Remains z end l p (linesOf (stateOf b ns cs) (callsFrom s i a (e - i)))) (more : i < e) (k : ℕ) (long : k ≡ lengthAt s i)
-    (ns′ cs′ m : List ℕ) (q : ℕ) where
-  lines-next : (b′ : Bench) → Prints (callAt s i a) (stepOf (stateOf b ns cs) (callAt s i a)) p l b′ q ns′ cs′ m
-      → Remains z end m q (linesOf (stateOf b′ ns′ cs′) (callsFrom s (i + 1) (a + k) (e - (i + 1))))
-  lines-next b′ g =
-      let n : e - i - 1 ≡ e - (i + 1) = omega arith in
-      let c = callAt s i a in
-      let rest = callsFrom s (i + 1) (a + lengthAt s i) (e - (i + 1)) in
-      let t = stepOf (stateOf b ns cs) c in
-      let u : linesOf (stateOf b ns cs) (callsFrom s i a (e - i)) ≡ lineOf c t ++ linesOf (t .held) rest = rw (calls-step s i a (e - i) (omega arith), n) (lines-step (stateOf b ns cs) c rest) in
-      let v = remains-next z end l p (lineOf c t) (linesOf (t .held) rest) q m (rw u at left) (g .line) in
-      let held = state-is b′ ns′ cs′ (t .held) (g .bench) (g .nameList) (g .countList) in
-      rw (long, held) v
+pub leaves-state : (y : State) (b : Bench) (ns cs : List ℕ) → Leaves y b ns cs → stateOf b ns cs ≡ y
+leaves-state y b ns cs f = state-is b ns cs y (f .bench) (f .nameList) (f .countList)
 
-  pub begin-next : (r : Started) (beat : ℕ) → kindAt s i ≡ beginKind → beat ≡ numberIn 4 s a → BeginGives (beginOf (stateOf b ns cs) beat) r ns′ cs′
-      → Puts (ascii "begin " ++ (decimal beat ++ startText (r .answer))) p l q m
-      → Remains z end m q (linesOf (stateOf (r .bench) ns′ cs′) (callsFrom s (i + 1) (a + k) (e - (i + 1))))
-  begin-next r beat u v g f =
-      let x = stateOf b ns cs in
-      lines-next (r .bench) (rw (call-begin s i a beat u v) (begin-prints (beginOf x beat) ns′ cs′ p l q m r beat g f))
-
-  pub receive-next : (r : Received) → (kindAt s i ≡ beginKind → ⊥) → kindAt s i ≡ receiveKind
-      → ReceiveGives (receiveOf (stateOf b ns cs) (take (a + k - a) (drop a s))) r ns′ cs′ → Puts (takenText (r .answer)) p l q m
-      → Remains z end m q (linesOf (stateOf (r .bench) ns′ cs′) (callsFrom s (i + 1) (a + k) (e - (i + 1))))
-  receive-next r u v g f =
-      let x = stateOf b ns cs in
-      let bytes = take (a + k - a) (drop a s) in
-      lines-next (r .bench) (rw (call-receive s i a k u v long) (receive-prints (receiveOf x bytes) ns′ cs′ p l q m r bytes g f))
-
-  pub act-next : (r : Acted) (o : Offer) (out : List ℕ) → (kindAt s i ≡ beginKind → ⊥) → (kindAt s i ≡ receiveKind → ⊥) → o ≡ offerAt s a
-      → ActGives (actOf (stateOf b ns cs) (record { name = o .name; count = o .count }) (o .priority) freshBuffer) r ns′ cs′ out
-      → Puts (actedText (r .bench .decided) (r .bench .parted) (r .answer)) p l q m
-      → Remains z end m q (linesOf (stateOf (r .bench) ns′ cs′) (callsFrom s (i + 1) (a + k) (e - (i + 1))))
-  act-next r o out u v w g f =
-      let x = stateOf b ns cs in
-      let block : Block = record { name = o .name; count = o .count } in
-      lines-next (r .bench)
-      (rw (call-act s i a o u v w)
-      (act-prints (actOf x block (o .priority) freshBuffer) ns′ cs′ p l q m r block (o .priority) freshBuffer out g f))
+pub lines-next : (z : List ℕ) (end : ℕ) (l : List ℕ) (p : ℕ) (s : List ℕ) (i a e : ℕ) (b : Bench) (ns cs : List ℕ)
+    → Remains z end l p (linesOf (stateOf b ns cs) (callsFrom s i a (e - i))) → i < e → (r : Called) (ns′ cs′ : List ℕ)
+    → EventGives (callAt s i a) (stateOf b ns cs) r ns′ cs′ → (q : ℕ) (m : List ℕ)
+    → Puts (answerText (r .bench .decided) (r .bench .parted) (r .answer)) p l q m → (k : ℕ) → k ≡ lengthAt s i
+    → Remains z end m q (linesOf (stateOf (r .bench) ns′ cs′) (callsFrom s (i + 1) (a + k) (e - (i + 1))))
+lines-next z end l p s i a e b ns cs left more r ns′ cs′ g q m f k long =
+    let n : e - i - 1 ≡ e - (i + 1) = omega arith in
+    let c = callAt s i a in
+    let rest = callsFrom s (i + 1) (a + lengthAt s i) (e - (i + 1)) in
+    let t = stepOf (stateOf b ns cs) c in
+    let u : linesOf (stateOf b ns cs) (callsFrom s i a (e - i)) ≡ lineOf c t ++ linesOf (t .held) rest = rw (calls-step s i a (e - i) (omega arith), n) (lines-step (stateOf b ns cs) c rest) in
+    let v = remains-next z end l p (lineOf c t) (linesOf (t .held) rest) q m (rw u at left) (rw (g .line) at f) in
+    rw (long, leaves-state (t .held) (r .bench) ns′ cs′ (g .leaves)) v
 
 -- ---- the whole text
 

@@ -4,37 +4,24 @@ use native.Mathlib.Omega.{arith}
 use mathlib.Core.Bool.{false}
 use mathlib.Core.List.{List, [], _∷_, _++_, append-assoc}
 use mathlib.Core.Path.{_≡_, refl, sym, ap, _∙_}
-use lib.ListN.{length, take, drop}
-use Rattle.message.specs.Numbers.{numberIn}
-use Rattle.bench.specs.Calls.{Call, begin, receive, act, State}
-use Rattle.bench.specs.ByRecord.{beginOf, receiveOf, actOf}
-use Rattle.bench.specs.Answers.{stateOf, BeginGives, ReceiveGives, ActGives}
+use lib.ListN.{length}
+use Rattle.bench.specs.Calls.{Call, State}
+use Rattle.bench.specs.Answers.{stateOf}
 use Rattle.calls.specs.Steps.{Leaves}
 use Rattle.bench.specs.declared.Bench.{Bench}
-use Rattle.bench.specs.declared.Started.{Started}
-use Rattle.bench.specs.declared.Received.{Received}
-use Rattle.bench.specs.declared.Acted.{Acted}
-use Rattle.run.specs.declared.Offer.{Offer}
+use Rattle.run.specs.declared.Called.{Called}
 use Rattle.demand.specs.Demand.{byValue, Event, runs}
 use Rattle.demand.specs.TheBench.{theBench}
-use Rattle.run.specs.Roll.{eventsOf, kindAt, lengthAt, bodiesPlace, beginKind, receiveKind, freshBuffer, misfits, callAt, callsFrom}
+use Rattle.run.specs.Roll.{eventsOf, lengthAt, bodiesPlace, misfits, callAt, callsFrom}
 use Rattle.run.specs.RollText.{lineOf, stepOf, linesOf}
-use Rattle.run.specs.RollSteps.{offerAt, Shaped}
+use Rattle.run.specs.RollSteps.{Shaped, Lies, EventGives}
 use Rattle.run.specs.Held.{heldAfter, firstCalls, bodyFrom}
-use Rattle.run.proofs.RollForm.{fit-next, body-fits, mark-fits}
-use Rattle.run.proofs.EventLaws.{call-begin, call-receive, call-act, calls-step, state-is}
+use Rattle.run.proofs.RollForm.{lies}
+use Rattle.run.proofs.EventLaws.{calls-step, leaves-state}
 
--- ---- event i of the first k, in a roll of the right form with e events
-
-module _ (s : List ℕ) (i a e : ℕ) (inv : misfits s i a (e - i) ≡ false) (m : ℕ) (l : m ≡ lengthAt s i) (k : ℕ) (h : i < k) (r : k ≤ e) where
-  pub fit-within : misfits s (i + 1) (a + m) (e - (i + 1)) ≡ false
-  fit-within = fit-next s i a e (omega arith) inv m l
-
-  pub body-within : a + m ≤ length s
-  body-within = body-fits s i a e (omega arith) inv m l
-
-pub mark-within : (s : List ℕ) (i k e : ℕ) → i < k → k ≤ e → e ≡ eventsOf s → Shaped s → 4 + 4 * i < length s
-mark-within s i k e h r q f = mark-fits s i e q f (omega arith)
+-- event i of the first k, in a roll of the right form with e events
+pub lies-within : (s : List ℕ) (i a e : ℕ) → misfits s i a (e - i) ≡ false → (k : ℕ) → i < k → k ≤ e → e ≡ eventsOf s → Shaped s → Lies s i a
+lies-within s i a e inv k h r q f = lies s i a e q f inv (omega arith)
 
 -- ---- the calls, one after the other
 
@@ -50,32 +37,15 @@ module _ (z : State) (s : List ℕ) (i a k : ℕ) (b : Bench) (ns cs : List ℕ)
   unfolding heldAfter callsFrom
   held-end h = let n : k - i ≡ 0 = omega arith in rw (left, n) (record { bench = refl; nameList = refl; countList = refl })
 
-  module _ (more : i < k) (m : ℕ) (long : m ≡ lengthAt s i) (ns′ cs′ : List ℕ) where
-    held-next : (c : Call) (b′ : Bench) → callAt s i a ≡ c → Leaves (stepOf (stateOf b ns cs) c .held) b′ ns′ cs′
-        → z ≡ heldAfter (stateOf b′ ns′ cs′) (callsFrom s (i + 1) (a + m) (k - (i + 1)))
-    held-next c b′ e g =
-        let n : k - i - 1 ≡ k - (i + 1) = omega arith in
-        let rest = callsFrom s (i + 1) (a + lengthAt s i) (k - (i + 1)) in
-        let y = stepOf (stateOf b ns cs) c .held in
-        let u : heldAfter (stateOf b ns cs) (callsFrom s i a (k - i)) ≡ heldAfter y rest = rw (calls-step s i a (k - i) (omega arith), n, e) (held-step (stateOf b ns cs) c rest) in
-        rw (long, state-is b′ ns′ cs′ y (g .bench) (g .nameList) (g .countList)) (left ∙ u)
-
-    pub begin-held : (r : Started) (beat : ℕ) → kindAt s i ≡ beginKind → beat ≡ numberIn 4 s a → BeginGives (beginOf (stateOf b ns cs) beat) r ns′ cs′
-        → z ≡ heldAfter (stateOf (r .bench) ns′ cs′) (callsFrom s (i + 1) (a + m) (k - (i + 1)))
-    begin-held r beat u v g =
-        held-next (begin beat) (r .bench) (call-begin s i a beat u v) (record { bench = g .bench; nameList = g .nameList; countList = g .countList })
-
-    pub receive-held : (r : Received) → (kindAt s i ≡ beginKind → ⊥) → kindAt s i ≡ receiveKind
-        → ReceiveGives (receiveOf (stateOf b ns cs) (take (a + m - a) (drop a s))) r ns′ cs′
-        → z ≡ heldAfter (stateOf (r .bench) ns′ cs′) (callsFrom s (i + 1) (a + m) (k - (i + 1)))
-    receive-held r u v g =
-        held-next (receive (take (a + m - a) (drop a s))) (r .bench) (call-receive s i a m u v long) (record { bench = g .bench; nameList = g .nameList; countList = g .countList })
-
-    pub act-held : (r : Acted) (o : Offer) (out : List ℕ) → (kindAt s i ≡ beginKind → ⊥) → (kindAt s i ≡ receiveKind → ⊥) → o ≡ offerAt s a
-        → ActGives (actOf (stateOf b ns cs) (record { name = o .name; count = o .count }) (o .priority) freshBuffer) r ns′ cs′ out
-        → z ≡ heldAfter (stateOf (r .bench) ns′ cs′) (callsFrom s (i + 1) (a + m) (k - (i + 1)))
-    act-held r o out u v w g =
-        held-next (act (record { name = o .name; count = o .count }) (o .priority) freshBuffer) (r .bench) (call-act s i a o u v w) (record { bench = g .bench; nameList = g .nameList; countList = g .countList })
+  pub held-next : i < k → (r : Called) (ns′ cs′ : List ℕ) → EventGives (callAt s i a) (stateOf b ns cs) r ns′ cs′ → (m : ℕ) → m ≡ lengthAt s i
+      → z ≡ heldAfter (stateOf (r .bench) ns′ cs′) (callsFrom s (i + 1) (a + m) (k - (i + 1)))
+  held-next more r ns′ cs′ g m long =
+      let n : k - i - 1 ≡ k - (i + 1) = omega arith in
+      let c = callAt s i a in
+      let rest = callsFrom s (i + 1) (a + lengthAt s i) (k - (i + 1)) in
+      let y = stepOf (stateOf b ns cs) c .held in
+      let u : heldAfter (stateOf b ns cs) (callsFrom s i a (k - i)) ≡ heldAfter y rest = rw (calls-step s i a (k - i) (omega arith), n) (held-step (stateOf b ns cs) c rest) in
+      rw (long, leaves-state y (r .bench) ns′ cs′ (g .leaves)) (left ∙ u)
 
 -- ---- where a body starts
 

@@ -9,7 +9,7 @@ use lib.Dec.{eqb, ltb}
 use lib.ListN.{length}
 use Rattle.message.proofs.TestLaws.{either, or-false}
 use Rattle.run.specs.Roll.{mostRoll, mostEvents, sizesLength, markLength, eventsOf, kindAt, zeroAt, lengthAt, bodiesPlace, rightBody, wrongMark, misfits, misshapen}
-use Rattle.run.specs.RollSteps.{Shaped}
+use Rattle.run.specs.RollSteps.{Shaped, Lies}
 
 pub wrong-mark-is : (s : List ℕ) (i k : ℕ) (r : Bool) → k ≡ lengthAt s i → r ≡ rightBody (kindAt s i) k
     → (not (eqb (zeroAt s i) 0) || not r) ≡ wrongMark s i
@@ -98,6 +98,11 @@ module _ (s : List ℕ) (i a e : ℕ) (h : i < e) (inv : misfits s i a (e - i) �
 
   pub body-fits : (k : ℕ) → k ≡ lengthAt s i → a + k ≤ length s
   body-fits k l = places-grow s (i + 1) (a + k) (e - (i + 1)) (fit-next k l)
+
+pub lies : (s : List ℕ) (i a e : ℕ) → e ≡ eventsOf s → Shaped s → misfits s i a (e - i) ≡ false → i < e → Lies s i a
+lies s i a e q f inv h =
+    let m = places-grow s 0 (bodiesPlace s) (eventsOf s) (f .fit) in
+    record { few = omega (arith, f .few); mark = omega arith; body = body-fits s i a e h inv (lengthAt s i) refl; short = f .short }
 
 pub mark-fits : (s : List ℕ) (i e : ℕ) → e ≡ eventsOf s → Shaped s → i < e → 4 + 4 * i < length s
 mark-fits s i e q f h = let m = places-grow s 0 (bodiesPlace s) (eventsOf s) (f .fit) in omega arith

@@ -11,8 +11,9 @@ use lib.Seq.{drop-cons, drop-length}
 use Rattle.message.specs.Numbers.{put}
 use Rattle.message.proofs.PartLaws.{put-append}
 use Rattle.bench.specs.declared.Made.{Made}
+use Rattle.run.specs.declared.Answered.{Answered}
 use Rattle.run.specs.Texts.{digits}
-use Rattle.run.specs.RollSteps.{actedText, Puts}
+use Rattle.run.specs.RollSteps.{actedText, answerText, Puts}
 
 -- ---- a word, byte by byte
 
@@ -46,6 +47,11 @@ pub puts-acted :
     (d : ℕ) (parted : Bool) (a b : Made) (at : ℕ) (l : List ℕ) (r : ℕ) (m : List ℕ) → a ≡ b → Puts (actedText d parted b) at l r m
     → Puts (actedText d parted a) at l r m
 puts-acted d parted = puts-by (actedText d parted)
+
+pub puts-answer :
+    (d : ℕ) (parted : Bool) (a b : Answered) (at : ℕ) (l : List ℕ) (r : ℕ) (m : List ℕ) → a ≡ b → Puts (answerText d parted b) at l r m
+    → Puts (answerText d parted a) at l r m
+puts-answer d parted = puts-by (answerText d parted)
 
 module _ (xs ys zs : List ℕ) (at : ℕ) (l : List ℕ) (p : ℕ) (m : List ℕ) (q : ℕ) (o : List ℕ) (r : ℕ) (u : List ℕ) where
   pub puts-three : Puts xs at l p m → Puts ys p m q o → Puts zs q o r u → Puts (xs ++ (ys ++ zs)) at l r u

@@ -1,5 +1,5 @@
 -- What the inner functions of the roll's text ask and give: no reader needs it to believe the text. Assumes nothing.
-use Prim.Native.Nat.{ℕ, _+_, _*_, _≤_}
+use Prim.Native.Nat.{ℕ, _+_, _*_, _≤_, _<_}
 use mathlib.Core.Bool.{Bool, false}
 use mathlib.Core.List.{List, _++_}
 use mathlib.Core.Path.{_≡_}
@@ -7,19 +7,22 @@ use lib.ListN.{length}
 use Rattle.message.specs.Limits.{headLength, blockWidth}
 use Rattle.message.specs.Numbers.{put}
 use Rattle.agreement.specs.Limits.{mostSenders}
-use Rattle.bench.specs.Calls.{Call, Step}
+use Rattle.bench.specs.Calls.{Call, State}
+use Rattle.calls.specs.Steps.{Leaves}
 use Rattle.bench.specs.declared.Start.{Start}
 use Rattle.bench.specs.declared.Start.the-variants as starts
 use Rattle.bench.specs.declared.Taken.{Taken}
 use Rattle.bench.specs.declared.Taken.the-variants as takings
 use Rattle.bench.specs.declared.Made.{Made}
 use Rattle.bench.specs.declared.Made.the-variants as makings
-use Rattle.bench.specs.declared.Bench.{Bench}
 use Rattle.bench.specs.declared.Counted.{Counted}
+use Rattle.run.specs.declared.Answered.{Answered}
+use Rattle.run.specs.declared.Answered.the-variants as answers
+use Rattle.run.specs.declared.Called.{Called}
 use Rattle.run.specs.declared.Offer.{Offer}
 use Rattle.run.specs.Texts.{ascii, decimal}
 use Rattle.run.specs.Roll.{mostRoll, mostEvents, sizesLength, eventsOf, markPlace, lengthAt, bodiesPlace, misfits, offeredAt, priorityAt}
-use Rattle.run.specs.RollText.{markText, lineOf}
+use Rattle.run.specs.RollText.{markText, lineOf, stepOf}
 
 -- the bytes that a line is given room for
 abbrev pub lineRoom : ℕ
@@ -51,6 +54,11 @@ actedText d parted (makings.Log k) = ascii "act log " ++ (decimal k ++ standText
 actedText d parted (makings.Proposal k) = ascii "act proposal " ++ (decimal k ++ standText d parted)
 actedText d parted (makings.Refused number) = ascii "act" ++ endText (decimal number)
 
+unfoldable pub answerText : ℕ → Bool → Answered → List ℕ
+answerText d parted (answers.Begun beat a) = ascii "begin " ++ (decimal beat ++ startText a)
+answerText d parted (answers.Taken a) = takenText a
+answerText d parted (answers.Acted a) = actedText d parted a
+
 -- ---- what is written
 
 -- xs was written at a place of the text, which goes on at r
@@ -63,12 +71,12 @@ pub record Remains (z : List ℕ) (r : ℕ) (text : List ℕ) (p : ℕ) (xs : Li
   pub place : r ≡ p + length xs
   pub whole : z ≡ put text p xs
 
--- the call was made and left the record b, and its line was written at a place of the text, which goes on at r
-pub record Prints (c : Call) (t : Step) (at : ℕ) (before : List ℕ) (b : Bench) (r : ℕ) (names counts after : List ℕ) : Type 0 where
-  pub bench : b ≡ t .held .bench
-  pub nameList : names ≡ t .held .lent .names
-  pub countList : counts ≡ t .held .lent .counts
-  pub line : Puts (lineOf c t) at before r after
+-- ---- what is called
+
+-- the call c was made on x: it left record and lists so, and its line is that of the answer
+pub record EventGives (c : Call) (x : State) (r : Called) (names counts : List ℕ) : Type 0 where
+  pub leaves : Leaves (stepOf x c .held) (r .bench) names counts
+  pub line : answerText (r .bench .decided) (r .bench .parted) (r .answer) ≡ lineOf c (stepOf x c)
 
 -- ---- what is read
 
@@ -88,6 +96,13 @@ lengthFor (makings.Refused number) = 0
 -- the mark of event i lies in the roll
 abbrev pub Marked : List ℕ → ℕ → Type 0
 Marked s i = markPlace (i + 1) ≤ length s
+
+-- event i, whose body starts at place a, lies in the roll
+pub record Lies (s : List ℕ) (i a : ℕ) : Type 0 where
+  pub few : i < mostEvents
+  pub mark : markPlace i < length s
+  pub body : a + lengthAt s i ≤ length s
+  pub short : length s ≤ mostRoll
 
 -- each count goes into a byte
 pub record Few (c : Counted) : Type 0 where

@@ -1,45 +1,23 @@
 // The events of a roll: each call is made, and its line written.
-ghost use mathlib.Core.Path.{_≡_};
-ghost use Prim.Native.Nat.{_≤_, _<_};
+ghost use Prim.Native.Nat.{_≤_};
 ghost use lib.ListN.{length};
 ghost use Rattle.bench.specs.ByRecord.{openOf};
 ghost use Rattle.bench.specs.Answers.{lentAs, stateOf};
 ghost use Rattle.run.specs.Roll.{mostRoll, benchesOf, ownOf, callsOf};
 ghost use Rattle.run.specs.RollText.{linesOf, openedText};
-ghost use Rattle.run.specs.RollSteps.{lineRoom, offerAt, Puts, Shaped};
-use super::BEGIN_KIND;
+ghost use Rattle.run.specs.RollSteps.{lineRoom, Puts, Shaped};
 use super::MARK_LENGTH;
-use super::Offer;
-use super::RECEIVE_KIND;
 use super::SIZES_LENGTH;
+use super::calling::call_event;
 use super::form::events_of;
 use super::form::length_at;
-use super::lines::put_acted;
-use super::lines::put_begun;
 use super::lines::put_first_line;
-use super::lines::put_taken;
+use super::lines::put_line;
 use super::texts::put_word;
 use bench::Bench;
-use bench::MOST_BYTES;
 use bench::Start;
-use message::number::u16_in;
-use message::number::u32_in;
-use message::number::u64_in;
 
-// The body of an Act, which starts at this place.
-pub(crate) fn offer_in(roll: &[u8], at: usize) -> Offer
-    requires { ⌜ at < 4294967296 ⌝ }
-    ensures { λ r. ⌜ r ≡ offerAt (now (roll .entry)) at ⌝ }
-{
-    Offer {
-        name: u64_in(roll, at),
-        priority: u64_in(roll, at + 8),
-        count: u16_in(roll, at + 16),
-    }
-}
-
-// The events, one after the other; where the text ends. The calls stand in the loop itself: a function around each would copy the
-// record more often.
+// The events, one after the other; where the text ends.
 fn print_events(
     bench: Bench,
     names: &mut [u64],
@@ -58,37 +36,12 @@ fn print_events(
     let mut p = at;
     let mut i = 0;
     while i < events {
-        let kind = roll[SIZES_LENGTH + MARK_LENGTH * i];
-        let from = body;
+        let called = call_event(b, names, counts, roll, i, body);
+        let answer = called.answer;
+        b = called.bench;
+        p = put_line(text, p, answer, b.decided, b.parted);
         body += length_at(roll, i);
         i += 1;
-        if kind == BEGIN_KIND {
-            let beat = u32_in(roll, from);
-            let started = calls::begin(b, names, counts, beat);
-            let answer = started.answer;
-            b = started.bench;
-            p = put_begun(text, p, beat, answer);
-        } else if kind == RECEIVE_KIND {
-            let received = calls::receive(b, names, counts, &roll[from..body]);
-            let answer = received.answer;
-            b = received.bench;
-            p = put_taken(text, p, answer);
-        } else {
-            let offer = offer_in(roll, from);
-            let mut out = [0; MOST_BYTES];
-            let acted = calls::act(
-                b,
-                names,
-                counts,
-                &mut out,
-                offer.name,
-                offer.count,
-                offer.priority,
-            );
-            let answer = acted.answer;
-            b = acted.bench;
-            p = put_acted(text, p, answer, b.decided, b.parted);
-        }
     }
     p
 }

@@ -6,16 +6,12 @@ ghost use Rattle.calls.specs.Steps.{Leaves};
 ghost use Rattle.run.specs.Roll.{eventsOf};
 ghost use Rattle.run.specs.RollSteps.{Shaped};
 ghost use Rattle.run.specs.Held.{heldAfter, firstCalls, bodyPlace};
-use super::BEGIN_KIND;
 use super::MARK_LENGTH;
-use super::RECEIVE_KIND;
 use super::SIZES_LENGTH;
-use super::events::offer_in;
+use super::calling::call_event;
 use super::form::events_of;
 use super::form::length_at;
 use bench::Bench;
-use bench::MOST_BYTES;
-use message::number::u32_in;
 
 // The first calls, one after the other: print_events without the lines.
 pub(crate) fn run_events(
@@ -33,30 +29,10 @@ pub(crate) fn run_events(
     let mut b = bench;
     let mut i = 0;
     while i < calls {
-        let kind = roll[SIZES_LENGTH + MARK_LENGTH * i];
-        let from = body;
+        let called = call_event(b, names, counts, roll, i, body);
+        b = called.bench;
         body += length_at(roll, i);
         i += 1;
-        if kind == BEGIN_KIND {
-            let started = calls::begin(b, names, counts, u32_in(roll, from));
-            b = started.bench;
-        } else if kind == RECEIVE_KIND {
-            let received = calls::receive(b, names, counts, &roll[from..body]);
-            b = received.bench;
-        } else {
-            let offer = offer_in(roll, from);
-            let mut out = [0; MOST_BYTES];
-            let acted = calls::act(
-                b,
-                names,
-                counts,
-                &mut out,
-                offer.name,
-                offer.count,
-                offer.priority,
-            );
-            b = acted.bench;
-        }
     }
     b
 }

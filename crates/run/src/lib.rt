@@ -1,6 +1,7 @@
 // A roll: a list of calls at one bench as bytes (specs/Roll.antt). Three functions of it: roll_text, its text (specs/RollText.antt);
 // and for a tool that shows schedules roll_page, what the bench holds after some of the calls (specs/Page.antt), and roll_made, the
 // message that an act made (specs/MadeBytes.antt). The crate cervakho exports them.
+mod calling;
 mod events;
 mod form;
 mod held;
@@ -16,7 +17,11 @@ ghost use Rattle.run.specs.Held.{heldAt};
 ghost use Rattle.run.specs.Page.{noPage, GivesPage};
 ghost use Rattle.run.specs.MadeBytes.{madeOf, GivesMade};
 use agreement::MOST_SENDERS;
+use bench::Bench;
 use bench::LEAST_LENT;
+use bench::Made;
+use bench::Start;
+use bench::Taken;
 use events::print_roll;
 use form::events_of;
 use form::is_misshapen;
@@ -47,6 +52,18 @@ pub struct Offer {
     pub name: u64,
     pub priority: u64,
     pub count: u16,
+}
+
+// What the call of an event answered, Begin's with the beat asked for; and the record afterwards.
+pub enum Answered {
+    Begun(u32, Start),
+    Taken(Taken),
+    Acted(Made),
+}
+
+pub struct Called {
+    pub answer: Answered,
+    pub bench: Bench,
 }
 
 // The text of a roll, at the front of the lent buffer, and how many bytes it has. A buffer shorter than the longest roll is left as

@@ -4,7 +4,8 @@ ghost use mathlib.Core.List.{_++_};
 ghost use lib.ListN.{length};
 ghost use Rattle.run.specs.Texts.{ascii, decimal};
 ghost use Rattle.run.specs.RollText.{firstLine, markText};
-ghost use Rattle.run.specs.RollSteps.{lineRoom, endText, startText, takenText, standText, actedText, Puts};
+ghost use Rattle.run.specs.RollSteps.{lineRoom, endText, startText, takenText, standText, actedText, answerText, Puts};
+use super::Answered;
 use super::texts::put_decimal;
 use super::texts::put_word;
 use bench::Made;
@@ -45,7 +46,7 @@ fn put_start(text: &mut [u8], at: usize, answer: Start) -> usize
     }
 }
 
-pub(crate) fn put_begun(text: &mut [u8], at: usize, beat: u32, answer: Start) -> usize
+fn put_begun(text: &mut [u8], at: usize, beat: u32, answer: Start) -> usize
     requires { ⌜ at + lineRoom ≤ length (now text) ⌝ }
     ensures { λ r. ⌜ Puts (ascii "begin " ++ (decimal beat ++ startText answer)) at (now (text .entry)) r (now (text .exit)) ⌝ }
     ensures { λ r. ⌜ r ≤ at + lineRoom ⌝ }
@@ -64,7 +65,7 @@ fn put_not_taken(text: &mut [u8], at: usize, number: u8) -> usize
     put_refusal(text, p, number)
 }
 
-pub(crate) fn put_taken(text: &mut [u8], at: usize, answer: Taken) -> usize
+fn put_taken(text: &mut [u8], at: usize, answer: Taken) -> usize
     requires { ⌜ at + lineRoom ≤ length (now text) ⌝ }
     ensures { λ r. ⌜ Puts (takenText answer) at (now (text .entry)) r (now (text .exit)) ⌝ }
     ensures { λ r. ⌜ r ≤ at + lineRoom ⌝ }
@@ -129,13 +130,7 @@ fn put_not_acted(text: &mut [u8], at: usize, number: u8) -> usize
     put_refusal(text, p, number)
 }
 
-pub(crate) fn put_acted(
-    text: &mut [u8],
-    at: usize,
-    answer: Made,
-    decided: u8,
-    parted: bool,
-) -> usize
+fn put_acted(text: &mut [u8], at: usize, answer: Made, decided: u8, parted: bool) -> usize
     requires { ⌜ at + lineRoom ≤ length (now text) ⌝ }
     ensures { λ r. ⌜ Puts (actedText decided parted answer) at (now (text .entry)) r (now (text .exit)) ⌝ }
     ensures { λ r. ⌜ r ≤ at + lineRoom ⌝ }
@@ -145,5 +140,24 @@ pub(crate) fn put_acted(
         Made::Log(k) => put_made(text, at, b"act log ", k, decided, parted),
         Made::Proposal(k) => put_made(text, at, b"act proposal ", k, decided, parted),
         Made::Refused(number) => put_not_acted(text, at, number),
+    }
+}
+
+// The line of an event, by what it answered and what stands after it.
+pub(crate) fn put_line(
+    text: &mut [u8],
+    at: usize,
+    answer: Answered,
+    decided: u8,
+    parted: bool,
+) -> usize
+    requires { ⌜ at + lineRoom ≤ length (now text) ⌝ }
+    ensures { λ r. ⌜ Puts (answerText decided parted answer) at (now (text .entry)) r (now (text .exit)) ⌝ }
+    ensures { λ r. ⌜ r ≤ at + lineRoom ⌝ }
+{
+    match answer {
+        Answered::Begun(beat, start) => put_begun(text, at, beat, start),
+        Answered::Taken(taken) => put_taken(text, at, taken),
+        Answered::Acted(made) => put_acted(text, at, made, decided, parted),
     }
 }

@@ -9,7 +9,7 @@ ghost use Rattle.run.specs.MadeBytes.{noAct, madeBy, actAfter, madeOn, G
 use super::ACT_KIND;
 use super::MARK_LENGTH;
 use super::SIZES_LENGTH;
-use super::events::offer_in;
+use super::calling::offer_in;
 use super::form::events_of;
 use super::held::body_place;
 use super::held::run_events;

@@ -1,5 +1,5 @@
-use Rattle.run.proofs.HeldLaws.{mark-within, fit-within, body-within, held-start, begin-held, receive-held, act-held, held-end}
-use Rattle.run.proofs.RollForm.{fit-start}
+use Rattle.run.proofs.HeldLaws.{lies-within, held-start, held-next, held-end}
+use Rattle.run.proofs.RollForm.{fit-start, fit-next}
 use native.Mathlib.Omega.{arith}
 use mathlib.Core.Bool.{false}
 use mathlib.Core.Path.{_≡_, refl}
@@ -11,6 +11,11 @@ use Rattle.run.specs.Held.{heldAfter, firstCalls}
 use borrow.Author.Needs.{needs}
 use Rattle.run.proofs.held.run_events.Statement.{statement}
 use Rattle.run.proofs.held.run_events.Tie as tie
+use Rattle.run.proofs.held.run_events.Reads as reads
+use Rattle.run.proofs.held.run_events.Lts as lts
+use Rattle.run.proofs.calling.call_event.Reads as call-event-reads
+use Rattle.run.proofs.form.events_of.Reads as events-of-reads
+use Rattle.run.proofs.form.length_at.Reads as length-at-reads
 
 abbrev Inv-loop : tie.InvT-loop
 Inv-loop names₀ counts₀ roll calls events body₀ b₀ i₀ names counts body b i = (i ≤ calls) × (calls ≤ events) × (events ≤ 1024) × (body ≤ 4100 + 65536 * i) × (length names ≡ length names₀) × (length counts ≡ length counts₀) × (misfits roll i body (events - i) ≡ false) × (heldAfter (stateOf b₀ names₀ counts₀) (firstCalls roll calls) ≡ heldAfter (stateOf b names counts) (callsFrom roll i body (calls - i)))
@@ -30,14 +35,8 @@ add-body c = search needs
 loop-holds : tie.Need-loop-holds Inv-loop μ-loop
 loop-holds c = (search needs, search needs, search needs, search needs, refl, refl, search fit-start, search held-start)
 
-mul-kind : tie.Need-mul-kind Inv-loop μ-loop
-mul-kind c = search needs
-
-add-kind : tie.Need-add-kind Inv-loop μ-loop
-add-kind c = search needs
-
-shared-slice-read-kind : tie.Need-shared-slice-read-kind Inv-loop μ-loop
-shared-slice-read-kind c = search mark-within
+call-event-requires : tie.Need-call-event-requires Inv-loop μ-loop
+call-event-requires c κs = search lies-within
 
 length-at-requires : tie.Need-length-at-requires Inv-loop μ-loop
 length-at-requires c κs = search needs
@@ -48,50 +47,11 @@ add-body-2 c = search needs
 add-i : tie.Need-add-i Inv-loop μ-loop
 add-i c = search needs
 
-u32-in-requires : tie.Need-u32-in-requires Inv-loop μ-loop
-u32-in-requires c κs = search needs
-
-begin-requires : tie.Need-begin-requires Inv-loop μ-loop
-begin-requires c κs = search needs
-
 loop-less : tie.Need-loop-less Inv-loop μ-loop
 loop-less c = search needs
 
 loop-again : tie.Need-loop-again Inv-loop μ-loop
-loop-again c = (search needs, search needs, search needs, omega arith, search needs, search needs, search fit-within, search begin-held)
-
-sub-receive : tie.Need-sub-receive Inv-loop μ-loop
-sub-receive c = search needs
-
-part-receive-start : tie.Need-part-receive-start Inv-loop μ-loop
-part-receive-start c = search needs
-
-part-receive-end : tie.Need-part-receive-end Inv-loop μ-loop
-part-receive-end c = search body-within
-
-receive-requires : tie.Need-receive-requires Inv-loop μ-loop
-receive-requires c κs = search needs
-
-loop-less-2 : tie.Need-loop-less-2 Inv-loop μ-loop
-loop-less-2 c = search needs
-
-loop-again-2 : tie.Need-loop-again-2 Inv-loop μ-loop
-loop-again-2 c = (search needs, search needs, search needs, omega arith, search needs, search needs, search fit-within, search receive-held)
-
-offer-in-requires : tie.Need-offer-in-requires Inv-loop μ-loop
-offer-in-requires c κs = search needs
-
-slice-aggregate-act : tie.Need-slice-aggregate-act Inv-loop μ-loop
-slice-aggregate-act c = search needs
-
-act-requires : tie.Need-act-requires Inv-loop μ-loop
-act-requires c κs = search needs
-
-loop-less-3 : tie.Need-loop-less-3 Inv-loop μ-loop
-loop-less-3 c = search needs
-
-loop-again-3 : tie.Need-loop-again-3 Inv-loop μ-loop
-loop-again-3 c = (search needs, search needs, search needs, omega arith, search needs, search needs, search fit-within, search act-held)
+loop-again c = (search needs, search needs, search needs, omega arith, search needs, search needs, fit-next _ _ _ _ (omega arith) (search needs) _ (search needs), search held-next)
 
 same-length : tie.Need-same-length Inv-loop μ-loop
 same-length c = search needs
@@ -112,27 +72,12 @@ run-events-spec =
     mul-body
     add-body
     loop-holds
-    mul-kind
-    add-kind
-    shared-slice-read-kind
+    call-event-requires
     length-at-requires
     add-body-2
     add-i
-    u32-in-requires
-    begin-requires
     loop-less
     loop-again
-    sub-receive
-    part-receive-start
-    part-receive-end
-    receive-requires
-    loop-less-2
-    loop-again-2
-    offer-in-requires
-    slice-aggregate-act
-    act-requires
-    loop-less-3
-    loop-again-3
     same-length
     same-length-2
     returns)

@@ -1,7 +1,7 @@
 use Rattle.run.proofs.EventLaws.{offer-is}
 use borrow.Author.Needs.{needs}
-use Rattle.run.proofs.events.offer_in.Statement.{statement}
-use Rattle.run.proofs.events.offer_in.Tie as tie
+use Rattle.run.proofs.calling.offer_in.Statement.{statement}
+use Rattle.run.proofs.calling.offer_in.Tie as tie
 
 u64-in-requires : tie.Need-u64-in-requires
 u64-in-requires c κs = search needs

@@ -1,0 +1,83 @@
+// One event of a roll: its call is made.
+ghost use mathlib.Core.Path.{_≡_};
+ghost use Prim.Native.Nat.{_<_};
+ghost use Rattle.bench.specs.Answers.{stateOf};
+ghost use Rattle.run.specs.Roll.{callAt};
+ghost use Rattle.run.specs.RollSteps.{offerAt, Lies, EventGives};
+use super::Answered;
+use super::BEGIN_KIND;
+use super::Called;
+use super::MARK_LENGTH;
+use super::Offer;
+use super::RECEIVE_KIND;
+use super::SIZES_LENGTH;
+use super::form::length_at;
+use bench::Bench;
+use bench::MOST_BYTES;
+use message::number::u16_in;
+use message::number::u32_in;
+use message::number::u64_in;
+
+// The body of an Act, which starts at this place.
+pub(crate) fn offer_in(roll: &[u8], at: usize) -> Offer
+    requires { ⌜ at < 4294967296 ⌝ }
+    ensures { λ r. ⌜ r ≡ offerAt (now (roll .entry)) at ⌝ }
+{
+    Offer {
+        name: u64_in(roll, at),
+        priority: u64_in(roll, at + 8),
+        count: u16_in(roll, at + 16),
+    }
+}
+
+// Event i, whose body starts at this place.
+pub(crate) fn call_event(
+    b: Bench,
+    names: &mut [u64],
+    counts: &mut [u16],
+    roll: &[u8],
+    i: usize,
+    at: usize,
+) -> Called
+    requires { ⌜ Lies (now roll) i at ⌝ }
+    ensures { λ r. ⌜ EventGives (callAt (now (roll .entry)) i at) (stateOf b (now (names .entry)) (now (counts .entry))) r (now (names .exit)) (now (counts .exit)) ⌝ }
+{
+    let kind = roll[SIZES_LENGTH + MARK_LENGTH * i];
+    if kind == BEGIN_KIND {
+        let beat = u32_in(roll, at);
+        let started = calls::begin(b, names, counts, beat);
+        let start = started.answer;
+        let bench = started.bench;
+        return Called {
+            answer: Answered::Begun(beat, start),
+            bench,
+        };
+    }
+    if kind == RECEIVE_KIND {
+        let end = at + length_at(roll, i);
+        let received = calls::receive(b, names, counts, &roll[at..end]);
+        let taken = received.answer;
+        let bench = received.bench;
+        return Called {
+            answer: Answered::Taken(taken),
+            bench,
+        };
+    }
+    let offer = offer_in(roll, at);
+    let mut out = [0; MOST_BYTES];
+    let acted = calls::act(
+        b,
+        names,
+        counts,
+        &mut out,
+        offer.name,
+        offer.count,
+        offer.priority,
+    );
+    let made = acted.answer;
+    let bench = acted.bench;
+    Called {
+        answer: Answered::Acted(made),
+        bench,
+    }
+}
