@@ -1,7 +1,7 @@
 -- A call made and its line written; the events one after the other; the whole text. Assumes nothing.
 use Prim.Native.Nat.{ℕ, suc, _+_, _-_, _*_, _≤_, _<_}
 use native.Mathlib.Omega.{arith}
-use mathlib.Core.Bool.{Bool, true, false}
+use mathlib.Core.Bool.{Bool, true, false, not}
 use mathlib.Core.List.{List, _∷_, _++_, append-assoc}
 use mathlib.Core.Path.{_≡_, refl, sym, ap, _∙_}
 use borrow.Author.Tests.{eq-eqb, ne-eqb, lt-ltb, le-ltb}
@@ -33,6 +33,7 @@ use Rattle.run.specs.Texts.{ascii, decimal}
 use Rattle.run.specs.Roll.{mostRoll, misshapen, eventsOf, benchesOf, ownOf, kindAt, lengthAt, beginKind, receiveKind, freshBuffer, callAt, callsFrom, callsOf}
 use Rattle.run.specs.RollText.{madeText, markText, replyText, lineFor, lineOf, stepOf, linesOf, noRollText, firstLine, isDone, openedText, freshLists, textOf, WritesText}
 use Rattle.run.specs.RollSteps.{lineRoom, endText, startText, takenText, standText, actedText, answerText, offerAt, Puts, Remains, EventGives}
+use Rattle.run.specs.Held.{openingOf, openRefuses, openedOn}
 use Rattle.run.proofs.TextLaws.{puts-then}
 
 -- ---- the line of a call, by the code's answer
@@ -173,21 +174,40 @@ lines-next z end l p s i a e b ns cs left more r ns′ cs′ g q m f k long =
     let v = remains-next z end l p (lineOf c t) (linesOf (t .held) rest) q m (rw u at left) (rw (g .line) at f) in
     rw (long, leaves-state (t .held) (r .bench) ns′ cs′ (g .leaves)) v
 
+-- ---- what Open gave
+
+pub is-not : (t u : Bool) → not t ≡ not u → t ≡ u
+is-not true true e = refl
+is-not true false e = sym e
+is-not false true e = sym e
+is-not false false e = refl
+
+module _ (s : List ℕ) (l : Lent) (r : Started) (ns cs : List ℕ) (g : OpenGives (openingOf s l) l r ns cs) where
+  pub is-open : r .answer ≡ starts.Done → false ≡ openRefuses s l
+  unfolding startReply
+  is-open e = let d : done ≡ openingOf s l .reply = rw e at (g .answered) in rw (← d)
+
+  pub is-shut : (k : ℕ) → r .answer ≡ starts.Refused k → true ≡ openRefuses s l
+  unfolding startReply
+  is-shut k e = let d : refused k ≡ openingOf s l .reply = rw e at (g .answered) in rw (← d)
+
+  pub opens : r .bench ≡ openingOf s l .bench
+  opens = g .bench
+
 -- ---- the whole text
 
--- Open gave o, and answered a
-module _ (s : List ℕ) (l : Lent) (o : Opening) (r : Started) (ns cs : List ℕ) (g : OpenGives o l r ns cs) (at : ℕ) (before : List ℕ) (q : ℕ) (after : List ℕ) where
-  pub roll-refused : (k : ℕ) → r .answer ≡ starts.Refused k → Puts (ascii "roll ?\n") at before q after → Puts (openedText s l o) at before q after
-  unfolding openedText startReply
-  roll-refused k e f = let d : refused k ≡ o .reply = rw e at (g .answered) in rw (← d) f
+-- Open refuses, or not
+module _ (s : List ℕ) (l : Lent) (v : Bool) (e : v ≡ openRefuses s l) (at : ℕ) (before : List ℕ) (q : ℕ) (after : List ℕ) where
+  pub roll-refused : v ≡ true → Puts noRollText at before q after → Puts (openedText s l (openingOf s l)) at before q after
+  unfolding openedText
+  roll-refused t f = rw (is-not (isDone (openingOf s l .reply)) false (sym e ∙ t)) f
 
-  pub roll-opened : (own n p : ℕ) (m : List ℕ) → r .answer ≡ starts.Done → own ≡ ownOf s → n ≡ benchesOf s → Puts (firstLine own n) at before p m
-      → Puts (linesOf (stateOf (r .bench) (l .names) (l .counts)) (callsOf s)) p m q after → Puts (openedText s l o) at before q after
-  unfolding openedText startReply
-  roll-opened own n p m did e f h k =
-      let d : done ≡ o .reply = rw did at (g .answered) in
-      rw (← d)
-      (puts-then (firstLine (ownOf s) (benchesOf s)) (linesOf (record { bench = o .bench; lent = l }) (callsOf s)) at before p m q after (rw (e, f) at h) (rw (g .bench) at k))
+  pub roll-opened : v ≡ false → (b : Bench) → b ≡ openingOf s l .bench → (p : ℕ) (m : List ℕ) → Puts (firstLine (ownOf s) (benchesOf s)) at before p m
+      → Puts (linesOf (stateOf b (l .names) (l .counts)) (callsOf s)) p m q after → Puts (openedText s l (openingOf s l)) at before q after
+  unfolding openedText
+  roll-opened t b o p m h k =
+      rw (is-not (isDone (openingOf s l .reply)) true (sym e ∙ t))
+      (puts-then (firstLine (ownOf s) (benchesOf s)) (linesOf (openedOn s l) (callsOf s)) at before p m q after h (rw o at k))
 
 -- into the lent buffer
 module _ (s before : List ℕ) where

@@ -1,13 +1,14 @@
 -- The message that an Act of a roll made: a law for each return of the code that makes it. Assumes nothing.
 use Prim.Native.Nat.{ℕ, _+_, _*_, _≤_, _<_}
 use native.Mathlib.Omega.{arith}
-use mathlib.Core.Bool.{Bool, true, false, not}
+use mathlib.Core.Bool.{Bool, true, false, not, _||_}
 use mathlib.Core.List.{List}
 use mathlib.Core.Option.{Option, some, none}
 use mathlib.Core.Path.{_≡_, refl, sym, ap, _∙_}
 use borrow.Author.Tests.{le-ltb, le-leb, lt-leb, leb-false}
 use lib.Dec.{eqb, leb, ltb}
 use lib.ListN.{length, drop, length-append}
+use Rattle.message.specs.Choice.{pick}
 use Rattle.message.specs.Logs.{Block}
 use Rattle.message.specs.Message.{Meaning, logMessage, bytesOf}
 use Rattle.message.proofs.TestLaws.{either, or-false, or-true}
@@ -18,22 +19,21 @@ use Rattle.bench.specs.Calls.{Reply, refused, done, took, acted, State}
 use Rattle.bench.specs.Acts.{outAfter}
 use Rattle.bench.specs.Record.{idle, beyond}
 use Rattle.bench.specs.ByRecord.{actedOf, actOf}
-use Rattle.bench.specs.Answers.{stateOf, startReply, contentMade, madeReply, OpenGives, ActGives}
+use Rattle.bench.specs.Answers.{stateOf, contentMade, madeReply, ActGives}
 use Rattle.calls.specs.Steps.{Leaves}
 use Rattle.bench.specs.declared.Bench.{Bench}
-use Rattle.bench.specs.declared.Start.the-variants as starts
 use Rattle.bench.specs.declared.Made.{Made}
 use Rattle.bench.specs.declared.Made.the-variants as makings
-use Rattle.bench.specs.declared.Started.{Started}
 use Rattle.bench.specs.declared.Acted.{Acted}
 use Rattle.bench.proofs.Buffer.{madeIn, act-out, out-made}
 use Rattle.run.specs.declared.Offer.{Offer}
 use Rattle.run.specs.Roll.{eventsOf, kindAt, actKind, misshapen, freshBuffer, offeredAt, priorityAt, callAt}
 use Rattle.run.specs.RollText.{freshLists, stepOf}
-use Rattle.run.specs.RollSteps.{offerAt, lengthFor}
-use Rattle.run.specs.Held.{heldAfter, firstCalls, bodyPlace, openingOf}
+use Rattle.run.specs.RollSteps.{Shaped, offerAt, lengthFor, noneMade}
+use Rattle.run.specs.Held.{heldAfter, firstCalls, bodyPlace, openingOf, openedOn, openRefuses}
 use Rattle.run.specs.MadeBytes.{madeBy, noAct, actAfter, madeOn, madeOf, madeLength, GivesMade}
-use Rattle.run.proofs.EventLaws.{state-is}
+use Rattle.run.proofs.EventLaws.{leaves-state}
+use Rattle.run.proofs.RollForm.{shaped}
 
 -- ---- which events are no Act
 
@@ -45,11 +45,6 @@ module _ (s : List ℕ) (e k : ℕ) (q : e ≡ eventsOf s) where
   pub event-act-not : k < e → not (eqb (kindAt s k) actKind) ≡ noAct s k
   unfolding noAct
   event-act-not h = rw (lt-leb (eventsOf s) k (omega arith))
-
-pub is-event : (s : List ℕ) (k : ℕ) (v : Bool) → v ≡ noAct s k → v ≡ false → k ≤ eventsOf s
-unfolding noAct
-is-event s k v t f =
-    let n = leb-false (eventsOf s) k (or-false (leb (eventsOf s) k) (not (eqb (kindAt s k) actKind)) (sym t ∙ f) .0) in omega arith
 
 -- ---- how long the message is
 
@@ -136,40 +131,53 @@ made-as-said x s k out e h =
 
 -- ---- the calls before it
 
-pub made-after : (s : List ℕ) (x : State) (k : ℕ) (out : List ℕ) (at : ℕ) (b : Bench) (ns cs : List ℕ) (n : ℕ) (after : List ℕ) → at ≡ bodyPlace s k
-    → Leaves (heldAfter x (firstCalls s k)) b ns cs
+pub made-after : (s : List ℕ) (l : Lent) (k : ℕ) (out : List ℕ) (at : ℕ) → at ≡ bodyPlace s k → (o : Bench) → o ≡ openingOf s l .bench
+    → (b : Bench) (ns cs : List ℕ) → Leaves (heldAfter (stateOf o (l .names) (l .counts)) (firstCalls s k)) b ns cs → (n : ℕ) (after : List ℕ)
     → GivesMade (madeBy (actOf (stateOf b ns cs) (offeredAt s at) (priorityAt s at) out .answer .reply)) out n after
-    → GivesMade (madeBy (actAfter x s k out .answer .reply)) out n after
-made-after s x k out at b ns cs n after p h f =
-    let held = state-is b ns cs (heldAfter x (firstCalls s k)) (h .bench) (h .nameList) (h .countList) in rw (held, p) at f
-
-none-made : (out : List ℕ) → GivesMade none out 0 out
-none-made out = record { answered = refl; fits = omega arith; buffer = refl }
-
-module _ (s : List ℕ) (l : Lent) (k : ℕ) (out : List ℕ) (r : Started) (ns cs : List ℕ) (g : OpenGives (openingOf s l) l r ns cs) where
-  pub made-shut : (number : ℕ) → r .answer ≡ starts.Refused number → GivesMade (madeOn s l k out) out 0 out
-  unfolding madeOn startReply
-  made-shut number e = let d : refused number ≡ openingOf s l .reply = rw e at (g .answered) in rw (← d) (none-made out)
-
-  pub made-opened : (n : ℕ) (after : List ℕ) → r .answer ≡ starts.Done
-      → GivesMade (madeBy (actAfter (stateOf (r .bench) (l .names) (l .counts)) s k out .answer .reply)) out n after
-      → GivesMade (madeOn s l k out) out n after
-  unfolding madeOn startReply
-  made-opened n after did f = let d : done ≡ openingOf s l .reply = rw did at (g .answered) in rw (← d) (rw (g .bench) at f)
+    → GivesMade (madeBy (actAfter (openedOn s l) s k out .answer .reply)) out n after
+made-after s l k out at p o e b ns cs f n after g =
+    let h : Leaves (heldAfter (openedOn s l) (firstCalls s k)) b ns cs = rw e at f in
+    rw (leaves-state (heldAfter (openedOn s l) (firstCalls s k)) b ns cs h, p) at g
 
 -- ---- of a whole roll
 
-module _ (s : List ℕ) (k : ℕ) (out : List ℕ) (v : Bool) (t : v ≡ misshapen s) where
-  pub made-no-roll : v ≡ true → GivesMade (madeOf s k out) out 0 out
-  unfolding madeOf
-  made-no-roll e = rw (← t, e) (none-made out)
+module _ (s : List ℕ) (k : ℕ) (l : Lent) (v : Bool) (t : v ≡ misshapen s) where
+  pub none-no-roll : v ≡ true → true ≡ noneMade s k l
+  none-no-roll e = rw (← t, e)
 
   module _ (w : Bool) (u : w ≡ noAct s k) where
-    pub made-no-act : w ≡ true → GivesMade (madeOf s k out) out 0 out
-    unfolding madeOf
-    made-no-act e = rw (← u, e, or-true (misshapen s)) (none-made out)
+    pub none-no-act : w ≡ true → true ≡ noneMade s k l
+    none-no-act e = sym (rw (← u, e) (or-true (misshapen s)))
 
-    pub made-whole : (n : ℕ) (after : List ℕ) → v ≡ false → w ≡ false → GivesMade (madeOn s freshLists k out) out n after
-        → GivesMade (madeOf s k out) out n after
-    unfolding madeOf
-    made-whole n after e f g = rw (← t, e, ← u, f) g
+    pub none-shut : v ≡ false → w ≡ false → (r : Bool) → r ≡ openRefuses s l → r ≡ noneMade s k l
+    none-shut e f r g = rw (← t, e, ← u, f) g
+
+-- one test after the other, and all at once
+picks : {A : Type 0} (a b c : Bool) (x y : A) → pick (a || b) x (pick c x y) ≡ pick (a || (b || c)) x y
+picks true b c x y = refl
+picks false true c x y = refl
+picks false false c x y = refl
+
+module _ (s : List ℕ) (k : ℕ) (v : Bool) (t : v ≡ noneMade s k freshLists) where
+  made-is : (out : List ℕ) → madeOf s k out ≡ pick (noneMade s k freshLists) none (madeBy (actAfter (openedOn s freshLists) s k out .answer .reply))
+  unfolding madeOf madeOn
+  made-is out =
+      picks (misshapen s) (noAct s k) (openRefuses s freshLists) none (madeBy (actAfter (openedOn s freshLists) s k out .answer .reply))
+
+  pub made-none : (out : List ℕ) → v ≡ true → GivesMade (madeOf s k out) out 0 out
+  made-none out e = rw (made-is out, ← t, e) (record { answered = refl; fits = omega arith; buffer = refl })
+
+  module _ (e : v ≡ false) where
+    pub made-shaped : Shaped s
+    made-shaped = shaped s (misshapen s) refl (or-false (misshapen s) (noAct s k || openRefuses s freshLists) (sym t ∙ e) .0)
+
+    pub made-event : k ≤ eventsOf s
+    unfolding noAct
+    made-event =
+        let act = or-false (noAct s k) (openRefuses s freshLists) (or-false (misshapen s) (noAct s k || openRefuses s freshLists) (sym t ∙ e) .1) .0 in
+        let n = leb-false (eventsOf s) k (or-false (leb (eventsOf s) k) (not (eqb (kindAt s k) actKind)) act .0) in
+        omega arith
+
+  pub made-whole : (out : List ℕ) (n : ℕ) (after : List ℕ) → v ≡ false
+      → GivesMade (madeBy (actAfter (openedOn s freshLists) s k out .answer .reply)) out n after → GivesMade (madeOf s k out) out n after
+  made-whole out n after e g = rw (made-is out, ← t, e) g

@@ -1,13 +1,13 @@
 -- The page of a roll: its bytes one after the other, and a law for each return of the code that writes it. Assumes nothing.
 use Prim.Native.Nat.{ℕ, zero, suc, _+_, _-_, _/_, _%_, _≤_, _<_}
 use native.Mathlib.Omega.{arith}
-use mathlib.Core.Bool.{Bool, true, false}
+use mathlib.Core.Bool.{Bool, true, false, _||_}
 use mathlib.Core.List.{List, [], _∷_, _++_}
 use mathlib.Core.Path.{_≡_, refl, sym, ap, _∙_}
-use borrow.Author.Tests.{lt-ltb, le-ltb}
+use borrow.Author.Tests.{lt-ltb, le-ltb, ltb-false}
 use lib.ListN.{length, getD, set, length-append}
 use Rattle.message.specs.Numbers.{part, put, bytesFor}
-use Rattle.message.proofs.TestLaws.{or-true}
+use Rattle.message.proofs.TestLaws.{or-false, or-true}
 use Rattle.message.proofs.NumberLaws.{length-bytes}
 use Rattle.message.proofs.PartLaws.{length-part}
 use Rattle.agreement.specs.Sets.{member}
@@ -16,20 +16,19 @@ use Rattle.agreement.specs.declared.Grade.{Grade}
 use Rattle.agreement.specs.declared.Grade.the-variants.{Longest, Nothing}
 use Rattle.bench.specs.Layout.{Lent}
 use Rattle.bench.specs.Calendar.{Act}
-use Rattle.bench.specs.Calls.{refused, done, State}
-use Rattle.bench.specs.Answers.{stateOf, startReply, OpenGives}
+use Rattle.bench.specs.Calls.{State}
+use Rattle.bench.specs.Answers.{stateOf}
 use Rattle.bench.specs.Readings.{ReadingGives}
 use Rattle.calls.specs.Steps.{Leaves}
 use Rattle.bench.specs.declared.Bench.{Bench}
 use Rattle.bench.specs.declared.Counted.{Counted}
-use Rattle.bench.specs.declared.Start.the-variants as starts
-use Rattle.bench.specs.declared.Started.{Started}
 use Rattle.run.specs.Roll.{eventsOf, misshapen}
-use Rattle.run.specs.RollSteps.{Puts, Few}
+use Rattle.run.specs.RollSteps.{Puts, Pageable, Few}
 use Rattle.run.specs.Held.{heldAfter, firstCalls, openingOf, openRefuses, heldAt}
-use Rattle.run.specs.Page.{flag, flagsFrom, setBytes, headBytes, setsBytes, slotBytes, gradeBytes, readBytes, pageBytes, pageLength, ReadsNow, GivesPage, scantPage, noPage}
+use Rattle.run.specs.Page.{flag, flagsFrom, setBytes, headBytes, setsBytes, slotBytes, gradeBytes, readBytes, pageBytes, pageLength, ReadsNow, GivesPage, scantPage, tooFew, noPage}
 use Rattle.run.proofs.TextLaws.{puts-then, puts-three}
-use Rattle.run.proofs.EventLaws.{state-is}
+use Rattle.run.proofs.EventLaws.{leaves-state}
+use Rattle.run.proofs.RollForm.{shaped}
 
 -- ---- a set
 
@@ -140,60 +139,67 @@ page-length b c = simp (length-append, slot-length, grade-length)
 
 -- ---- the calls before it
 
-pub page-given : (x : State) (b : Bench) (ns cs : List ℕ) (l : Lent) (c : Counted) (before : List ℕ) (r : ℕ) (after : List ℕ) → Leaves x b ns cs
-    → ReadsNow (stateOf b ns cs) c → Puts (pageBytes b c) 0 before r after → GivesPage false x l before r ns cs after
-page-given x b ns cs l c before r after h g p = record {
-  answered = let n = page-length b c in p .place ∙ omega arith;
-  nameList = h .nameList;
-  countList = h .countList;
-  kept = λ e. let z : _≡_ {A = ℕ} 0 1 = cc in absurd (omega arith);
-  shown = λ e. record {
-    count = c;
-    reads = rw (← state-is b ns cs x (h .bench) (h .nameList) (h .countList)) g;
-    page = rw (h .bench) at (p .text);
-  };
-}
+pub page-given : (s : List ℕ) (l : Lent) (k : ℕ) (o : Bench) → o ≡ openingOf s l .bench → (b : Bench) (ns cs : List ℕ)
+    → Leaves (heldAfter (stateOf o (l .names) (l .counts)) (firstCalls s k)) b ns cs → (c : Counted) → ReadsNow (stateOf b ns cs) c
+    → (before : List ℕ) (r : ℕ) (after : List ℕ) → Puts (pageBytes b c) 0 before r after → GivesPage false (heldAt s l k) l before r ns cs after
+page-given s l k o e b ns cs f c g before r after p =
+    let h : Leaves (heldAt s l k) b ns cs = rw e at f in
+    record {
+      answered = let n = page-length b c in p .place ∙ omega arith;
+      nameList = h .nameList;
+      countList = h .countList;
+      kept = λ e. let z : _≡_ {A = ℕ} 0 1 = cc in absurd (omega arith);
+      shown = λ e. record {
+        count = c;
+        reads = rw (← leaves-state (heldAt s l k) b ns cs h) g;
+        page = rw (h .bench) at (p .text);
+      };
+    }
 
-page-refused : (t : Bool) (x : State) (l : Lent) (before : List ℕ) → t ≡ true → GivesPage t x l before 0 (l .names) (l .counts) before
-page-refused t x l before e = record {
-  answered = rw e;
-  nameList = rw e;
-  countList = rw e;
-  kept = λ f. refl;
-  shown = λ f. let z : _≡_ {A = ℕ} 0 1 = cc in absurd (omega arith);
-}
-
-module _ (s : List ℕ) (l : Lent) (k : ℕ) (before : List ℕ) (r : Started) (ns cs : List ℕ) (g : OpenGives (openingOf s l) l r ns cs) where
-  pub page-shut : (number : ℕ) → r .answer ≡ starts.Refused number → GivesPage (openRefuses s l) (heldAt s l k) l before 0 (l .names) (l .counts) before
-  unfolding startReply
-  page-shut number e =
-      let d : refused number ≡ openingOf s l .reply = rw e at (g .answered) in page-refused (openRefuses s l) (heldAt s l k) l before (rw (← d))
-
-  pub page-opened : (n : ℕ) (ns′ cs′ after : List ℕ) → r .answer ≡ starts.Done
-      → GivesPage false (heldAfter (stateOf (r .bench) (l .names) (l .counts)) (firstCalls s k)) l before n ns′ cs′ after
-      → GivesPage (openRefuses s l) (heldAt s l k) l before n ns′ cs′ after
-  unfolding startReply
-  page-opened n ns′ cs′ after did f = let d : done ≡ openingOf s l .reply = rw did at (g .answered) in rw (← d) (rw (g .bench) at f)
-
--- ---- of a whole roll
+-- ---- whether there is one
 
 module _ (s : List ℕ) (k : ℕ) (l : Lent) (before : List ℕ) where
-  pub page-scant : length before < pageLength → GivesPage (noPage s k l before) (heldAt s l k) l before 0 (l .names) (l .counts) before
+  pub page-scant : length before < pageLength → true ≡ noPage s k l before
   unfolding noPage
-  page-scant h = page-refused (noPage s k l before) (heldAt s l k) l before (rw (lt-ltb (length before) pageLength h))
+  page-scant h = rw (lt-ltb (length before) pageLength h)
 
   module _ (v : Bool) (t : v ≡ misshapen s) where
-    pub page-no-roll : v ≡ true → GivesPage (noPage s k l before) (heldAt s l k) l before 0 (l .names) (l .counts) before
+    pub page-no-roll : v ≡ true → true ≡ noPage s k l before
     unfolding noPage
-    page-no-roll e = page-refused (noPage s k l before) (heldAt s l k) l before (rw (← t, e) (or-true (scantPage before)))
+    page-no-roll e = sym (rw (← t, e) (or-true (scantPage before)))
 
     module _ (e : ℕ) (q : e ≡ eventsOf s) where
-      pub page-few : e < k → GivesPage (noPage s k l before) (heldAt s l k) l before 0 (l .names) (l .counts) before
+      pub page-few : e < k → true ≡ noPage s k l before
       unfolding noPage
-      page-few h =
-          page-refused (noPage s k l before) (heldAt s l k) l before (rw (lt-ltb (eventsOf s) k (omega arith), or-true (misshapen s)) (or-true (scantPage before)))
+      page-few h = sym (rw (lt-ltb (eventsOf s) k (omega arith), or-true (misshapen s)) (or-true (scantPage before)))
 
-      pub page-whole : (n : ℕ) (ns cs after : List ℕ) → pageLength ≤ length before → v ≡ false → k ≤ e
-          → GivesPage (openRefuses s l) (heldAt s l k) l before n ns cs after → GivesPage (noPage s k l before) (heldAt s l k) l before n ns cs after
+      pub page-shut : pageLength ≤ length before → v ≡ false → k ≤ e → (w : Bool) → w ≡ openRefuses s l → w ≡ noPage s k l before
       unfolding noPage
-      page-whole n ns cs after h f i g = rw (le-ltb (length before) pageLength h, ← t, f, le-ltb (eventsOf s) k (omega arith)) g
+      page-shut h f i w g = rw (le-ltb (length before) pageLength h, ← t, f, le-ltb (eventsOf s) k (omega arith)) g
+
+  module _ (v : Bool) (t : v ≡ noPage s k l before) where
+    pub page-none : v ≡ true → GivesPage (noPage s k l before) (heldAt s l k) l before 0 (l .names) (l .counts) before
+    page-none e =
+        let f = sym t ∙ e in
+        record {
+          answered = rw f;
+          nameList = rw f;
+          countList = rw f;
+          kept = λ g. refl;
+          shown = λ g. let z : _≡_ {A = ℕ} 0 1 = cc in absurd (omega arith);
+        }
+
+    pub pageable : v ≡ false → Pageable s k before
+    unfolding noPage
+    pageable e =
+        let parts = or-false (scantPage before) (misshapen s || (tooFew s k || openRefuses s l)) (sym t ∙ e) in
+        let more = or-false (misshapen s) (tooFew s k || openRefuses s l) (parts .1) in
+        record {
+          room = ltb-false (length before) pageLength (parts .0);
+          shaped = shaped s (misshapen s) refl (more .0);
+          few = ltb-false (eventsOf s) k (or-false (tooFew s k) (openRefuses s l) (more .1) .0);
+        }
+
+    pub page-whole : v ≡ false → (n : ℕ) (ns cs after : List ℕ) → GivesPage false (heldAt s l k) l before n ns cs after
+        → GivesPage (noPage s k l before) (heldAt s l k) l before n ns cs after
+    page-whole e n ns cs after g = rw (← t, e) g

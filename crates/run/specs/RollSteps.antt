@@ -1,12 +1,13 @@
 -- What the inner functions of the roll's text ask and give: no reader needs it to believe the text. Assumes nothing.
 use Prim.Native.Nat.{ℕ, _+_, _*_, _≤_, _<_}
-use mathlib.Core.Bool.{Bool, false}
+use mathlib.Core.Bool.{Bool, false, _||_}
 use mathlib.Core.List.{List, _++_}
 use mathlib.Core.Path.{_≡_}
 use lib.ListN.{length}
 use Rattle.message.specs.Limits.{headLength, blockWidth}
 use Rattle.message.specs.Numbers.{put}
 use Rattle.agreement.specs.Limits.{mostSenders}
+use Rattle.bench.specs.Layout.{Lent}
 use Rattle.bench.specs.Calls.{Call, State}
 use Rattle.calls.specs.Steps.{Leaves}
 use Rattle.bench.specs.declared.Start.{Start}
@@ -21,8 +22,11 @@ use Rattle.run.specs.declared.Answered.the-variants as answers
 use Rattle.run.specs.declared.Called.{Called}
 use Rattle.run.specs.declared.Offer.{Offer}
 use Rattle.run.specs.Texts.{ascii, decimal}
-use Rattle.run.specs.Roll.{mostRoll, mostEvents, sizesLength, eventsOf, markPlace, lengthAt, bodiesPlace, misfits, offeredAt, priorityAt}
+use Rattle.run.specs.Roll.{mostRoll, mostEvents, sizesLength, eventsOf, markPlace, lengthAt, bodiesPlace, misfits, misshapen, offeredAt, priorityAt}
 use Rattle.run.specs.RollText.{markText, lineOf, stepOf}
+use Rattle.run.specs.Held.{openRefuses}
+use Rattle.run.specs.Page.{pageLength}
+use Rattle.run.specs.MadeBytes.{noAct}
 
 -- the bytes that a line is given room for
 abbrev pub lineRoom : ℕ
@@ -104,14 +108,24 @@ pub record Lies (s : List ℕ) (i a : ℕ) : Type 0 where
   pub body : a + lengthAt s i ≤ length s
   pub short : length s ≤ mostRoll
 
--- each count goes into a byte
-pub record Few (c : Counted) : Type 0 where
-  pub supporters : c .supporters ≤ mostSenders
-  pub senders : c .senders ≤ mostSenders
-
 -- a roll of the right form
 pub record Shaped (s : List ℕ) : Type 0 where
   pub long : sizesLength ≤ length s
   pub short : length s ≤ mostRoll
   pub few : eventsOf s ≤ mostEvents
   pub fit : misfits s 0 (bodiesPlace s) (eventsOf s) ≡ false
+
+-- there is a page of the first k calls in this buffer
+pub record Pageable (s : List ℕ) (k : ℕ) (before : List ℕ) : Type 0 where
+  pub room : pageLength ≤ length before
+  pub shaped : Shaped s
+  pub few : k ≤ eventsOf s
+
+-- no message is made of event k
+abbrev pub noneMade : List ℕ → ℕ → Lent → Bool
+noneMade s k l = misshapen s || (noAct s k || openRefuses s l)
+
+-- each count goes into a byte
+pub record Few (c : Counted) : Type 0 where
+  pub supporters : c .supporters ≤ mostSenders
+  pub senders : c .senders ≤ mostSenders

@@ -1,11 +1,11 @@
 // The events of a roll: each call is made, and its line written.
 ghost use Prim.Native.Nat.{_≤_};
 ghost use lib.ListN.{length};
-ghost use Rattle.bench.specs.ByRecord.{openOf};
 ghost use Rattle.bench.specs.Answers.{lentAs, stateOf};
-ghost use Rattle.run.specs.Roll.{mostRoll, benchesOf, ownOf, callsOf};
+ghost use Rattle.run.specs.Roll.{mostRoll, callsOf};
 ghost use Rattle.run.specs.RollText.{linesOf, openedText};
 ghost use Rattle.run.specs.RollSteps.{lineRoom, Puts, Shaped};
+ghost use Rattle.run.specs.Held.{openingOf};
 use super::MARK_LENGTH;
 use super::SIZES_LENGTH;
 use super::calling::call_event;
@@ -13,9 +13,10 @@ use super::form::events_of;
 use super::form::length_at;
 use super::lines::put_first_line;
 use super::lines::put_line;
+use super::opening::is_shut;
+use super::opening::opened;
 use super::texts::put_word;
 use bench::Bench;
-use bench::Start;
 
 // The events, one after the other; where the text ends.
 fn print_events(
@@ -54,19 +55,13 @@ pub(crate) fn print_roll(
     text: &mut [u8],
 ) -> usize
     requires { ⌜ (mostRoll ≤ length (now text)) × Shaped (now roll) ⌝ }
-    ensures { λ r. ⌜ Puts (openedText (now (roll .entry)) (lentAs (now (names .entry)) (now (counts .entry))) (openOf (benchesOf (now (roll .entry))) (ownOf (now (roll .entry))) (lentAs (now (names .entry)) (now (counts .entry))))) 0 (now (text .entry)) r (now (text .exit)) ⌝ }
+    ensures { λ r. ⌜ Puts (openedText (now (roll .entry)) (lentAs (now (names .entry)) (now (counts .entry))) (openingOf (now (roll .entry)) (lentAs (now (names .entry)) (now (counts .entry))))) 0 (now (text .entry)) r (now (text .exit)) ⌝ }
     ensures { λ r. ⌜ r ≤ mostRoll ⌝ }
 {
-    let n = roll[0];
-    let own = roll[1];
-    let started = calls::open(n, own, names, counts);
-    let answer = started.answer;
-    let opened = started.bench;
-    match answer {
-        Start::Refused(_) => put_word(text, 0, b"roll ?\n"),
-        Start::Done => {
-            let p = put_first_line(text, own, n);
-            print_events(opened, names, counts, roll, text, p)
-        }
+    if is_shut(roll, names, counts) {
+        return put_word(text, 0, b"roll ?\n");
     }
+    let bench = opened(roll, names, counts);
+    let p = put_first_line(text, roll[1], roll[0]);
+    print_events(bench, names, counts, roll, text, p)
 }

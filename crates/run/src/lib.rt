@@ -7,6 +7,7 @@ mod form;
 mod held;
 mod lines;
 mod made;
+mod opening;
 mod page;
 mod slots;
 mod texts;
@@ -23,11 +24,11 @@ use bench::Made;
 use bench::Start;
 use bench::Taken;
 use events::print_roll;
-use form::events_of;
 use form::is_misshapen;
-use made::is_no_act;
-use made::make_event;
-use page::page_roll;
+use made::is_none_made;
+use made::make_after;
+use page::is_no_page;
+use page::page_after;
 use texts::put_word;
 
 // The numbers of specs/Roll.antt and specs/Page.antt.
@@ -94,16 +95,10 @@ pub fn roll_page(
 ) -> usize
     ensures { λ r. ⌜ GivesPage (noPage (now (roll .entry)) calls (lentAs (now (names .entry)) (now (counts .entry))) (now (page .entry))) (heldAt (now (roll .entry)) (lentAs (now (names .entry)) (now (counts .entry))) calls) (lentAs (now (names .entry)) (now (counts .entry))) (now (page .entry)) r (now (names .exit)) (now (counts .exit)) (now (page .exit)) ⌝ }
 {
-    if page.len() < PAGE_LENGTH {
+    if is_no_page(roll, calls, names, counts, page) {
         return 0;
     }
-    if is_misshapen(roll) {
-        return 0;
-    }
-    if events_of(roll) < calls {
-        return 0;
-    }
-    page_roll(roll, calls, names, counts, page)
+    page_after(roll, calls, names, counts, page)
 }
 
 // The message that event number `event` of a roll made, at the front of the lent buffer, and its length. The buffer is the Act's
@@ -115,11 +110,8 @@ pub fn roll_made(roll: &[u8], event: usize, out: &mut [u8]) -> usize
 {
     let mut names = [0; LEAST_LENT];
     let mut counts = [0; LEAST_LENT];
-    if is_misshapen(roll) {
+    if is_none_made(roll, event, &names, &counts) {
         return 0;
     }
-    if is_no_act(roll, event) {
-        return 0;
-    }
-    make_event(roll, &mut names, &mut counts, event, out)
+    make_after(roll, &mut names, &mut counts, event, out)
 }

@@ -4,22 +4,25 @@ ghost use Prim.Native.Nat.{_≤_, _<_};
 ghost use Rattle.bench.specs.ByRecord.{actOf};
 ghost use Rattle.bench.specs.Answers.{lentAs, stateOf};
 ghost use Rattle.run.specs.Roll.{eventsOf, offeredAt, priorityAt};
-ghost use Rattle.run.specs.RollSteps.{Shaped, lengthFor};
-ghost use Rattle.run.specs.MadeBytes.{noAct, madeBy, actAfter, madeOn, GivesMade};
+ghost use Rattle.run.specs.RollSteps.{Shaped, lengthFor, noneMade};
+ghost use Rattle.run.specs.Held.{openedOn};
+ghost use Rattle.run.specs.MadeBytes.{noAct, madeBy, actAfter, GivesMade};
 use super::ACT_KIND;
 use super::MARK_LENGTH;
 use super::SIZES_LENGTH;
 use super::calling::offer_in;
 use super::form::events_of;
+use super::form::is_misshapen;
 use super::held::body_place;
 use super::held::run_events;
+use super::opening::is_shut;
+use super::opening::opened;
 use bench::Bench;
 use bench::Made;
-use bench::Start;
 use message::BLOCK_WIDTH;
 use message::HEAD_LENGTH;
 
-pub(crate) fn is_no_act(roll: &[u8], event: usize) -> bool
+fn is_no_act(roll: &[u8], event: usize) -> bool
     requires { ⌜ Shaped (now roll) ⌝ }
     ensures { λ r. ⌜ r ≡ noAct (now (roll .entry)) event ⌝ }
 {
@@ -67,25 +70,21 @@ fn act_in(
     message_length(answer)
 }
 
-// The calls before this event, an Act, and then it.
-fn make_after(
-    opened: Bench,
-    names: &mut [u64],
-    counts: &mut [u16],
-    roll: &[u8],
-    event: usize,
-    out: &mut [u8],
-) -> usize
-    requires { ⌜ Shaped (now roll) × (event ≤ eventsOf (now roll)) ⌝ }
-    ensures { λ r. ⌜ GivesMade (madeBy (actAfter (stateOf opened (now (names .entry)) (now (counts .entry))) (now (roll .entry)) event (now (out .entry)) .answer .reply)) (now (out .entry)) r (now (out .exit)) ⌝ }
+// The roll has another form, there is no such event or it is no Act, or Open refuses.
+pub(crate) fn is_none_made(roll: &[u8], event: usize, names: &[u64], counts: &[u16]) -> bool
+    ensures { λ r. ⌜ r ≡ noneMade (now (roll .entry)) event (lentAs (now (names .entry)) (now (counts .entry))) ⌝ }
 {
-    let at = body_place(roll, event);
-    let held = run_events(opened, names, counts, roll, event);
-    act_in(held, names, counts, roll, at, out)
+    if is_misshapen(roll) {
+        return true;
+    }
+    if is_no_act(roll, event) {
+        return true;
+    }
+    is_shut(roll, names, counts)
 }
 
-// The bench is opened, and the event made, or the roll's n or own number is refused.
-pub(crate) fn make_event(
+// The bench is opened, and the calls before this event, an Act, are made, and then it.
+pub(crate) fn make_after(
     roll: &[u8],
     names: &mut [u64],
     counts: &mut [u16],
@@ -93,13 +92,10 @@ pub(crate) fn make_event(
     out: &mut [u8],
 ) -> usize
     requires { ⌜ Shaped (now roll) × (event ≤ eventsOf (now roll)) ⌝ }
-    ensures { λ r. ⌜ GivesMade (madeOn (now (roll .entry)) (lentAs (now (names .entry)) (now (counts .entry))) event (now (out .entry))) (now (out .entry)) r (now (out .exit)) ⌝ }
+    ensures { λ r. ⌜ GivesMade (madeBy (actAfter (openedOn (now (roll .entry)) (lentAs (now (names .entry)) (now (counts .entry)))) (now (roll .entry)) event (now (out .entry)) .answer .reply)) (now (out .entry)) r (now (out .exit)) ⌝ }
 {
-    let started = calls::open(roll[0], roll[1], names, counts);
-    let answer = started.answer;
-    let opened = started.bench;
-    match answer {
-        Start::Refused(_) => 0,
-        Start::Done => make_after(opened, names, counts, roll, event, out),
-    }
+    let at = body_place(roll, event);
+    let bench = opened(roll, names, counts);
+    let held = run_events(bench, names, counts, roll, event);
+    act_in(held, names, counts, roll, at, out)
 }

@@ -1,46 +1,49 @@
-use Rattle.run.proofs.MadeLaws.{is-event, made-no-roll, made-no-act, made-whole}
-use Rattle.run.proofs.RollForm.{shaped}
+use Rattle.run.proofs.MadeLaws.{made-shaped, made-event, made-none, made-whole}
 use borrow.Author.Needs.{needs}
 use Rattle.run.proofs.roll_made.Statement.{statement}
 use Rattle.run.proofs.roll_made.Tie as tie
+use Rattle.run.proofs.roll_made.Reads as reads
+use Rattle.run.proofs.roll_made.Lts as lts
+use Rattle.run.proofs.made.is_none_made.Reads as is-none-made-reads
+use Rattle.run.proofs.made.make_after.Reads as make-after-reads
 
-is-misshapen-requires : tie.Need-is-misshapen-requires
-is-misshapen-requires c κs = search needs
+slice-aggregate-is-none-made : tie.Need-slice-aggregate-is-none-made
+slice-aggregate-is-none-made c = search needs
+
+slice-aggregate-is-none-made-2 : tie.Need-slice-aggregate-is-none-made-2
+slice-aggregate-is-none-made-2 c = search needs
+
+is-none-made-requires : tie.Need-is-none-made-requires
+is-none-made-requires c κs = search needs
 
 returns : tie.Need-returns
-returns c = search made-no-roll
+returns c = search made-none
 
-is-no-act-requires : tie.Need-is-no-act-requires
-is-no-act-requires c κs = search shaped
+slice-aggregate-make-after : tie.Need-slice-aggregate-make-after
+slice-aggregate-make-after c = search needs
 
-returns-2 : tie.Need-returns-2
-returns-2 c = search made-no-act
+slice-aggregate-make-after-2 : tie.Need-slice-aggregate-make-after-2
+slice-aggregate-make-after-2 c = search needs
 
-slice-aggregate-make-event : tie.Need-slice-aggregate-make-event
-slice-aggregate-make-event c = search needs
-
-slice-aggregate-make-event-2 : tie.Need-slice-aggregate-make-event-2
-slice-aggregate-make-event-2 c = search needs
-
-make-event-requires : tie.Need-make-event-requires
-make-event-requires c κs = (search shaped, search is-event)
+make-after-requires : tie.Need-make-after-requires
+make-after-requires c κs = (search made-shaped, search made-event)
 
 same-length : tie.Need-same-length
 same-length c = search needs
 
-returns-3 : tie.Need-returns-3
-returns-3 c = search made-whole
+returns-2 : tie.Need-returns-2
+returns-2 c = search made-whole
 
 pub roll-made-spec : {M : Type 1} → statement M
 roll-made-spec =
     tie.close
     (tie.spec
-    is-misshapen-requires
+    slice-aggregate-is-none-made
+    slice-aggregate-is-none-made-2
+    is-none-made-requires
     returns
-    is-no-act-requires
-    returns-2
-    slice-aggregate-make-event
-    slice-aggregate-make-event-2
-    make-event-requires
+    slice-aggregate-make-after
+    slice-aggregate-make-after-2
+    make-after-requires
     same-length
-    returns-3)
+    returns-2)

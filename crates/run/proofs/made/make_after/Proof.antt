@@ -2,9 +2,18 @@ use Rattle.run.proofs.MadeLaws.{made-after}
 use borrow.Author.Needs.{needs}
 use Rattle.run.proofs.made.make_after.Statement.{statement}
 use Rattle.run.proofs.made.make_after.Tie as tie
+use Rattle.run.proofs.made.make_after.Reads as reads
+use Rattle.run.proofs.made.make_after.Lts as lts
+use Rattle.run.proofs.held.body_place.Reads as body-place-reads
+use Rattle.run.proofs.held.run_events.Reads as run-events-reads
+use Rattle.run.proofs.made.act_in.Reads as act-in-reads
+use Rattle.run.proofs.opening.opened.Reads as opened-reads
 
 body-place-requires : tie.Need-body-place-requires
 body-place-requires c κs = search needs
+
+opened-requires : tie.Need-opened-requires
+opened-requires c κs = search needs
 
 run-events-requires : tie.Need-run-events-requires
 run-events-requires c κs = search needs
@@ -29,6 +38,7 @@ make-after-spec =
     tie.close
     (tie.spec
     body-place-requires
+    opened-requires
     run-events-requires
     act-in-requires
     same-length

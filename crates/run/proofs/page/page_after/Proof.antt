@@ -1,7 +1,16 @@
-use Rattle.run.proofs.PageLaws.{page-given}
+use Rattle.run.proofs.PageLaws.{counts-few, page-given}
 use borrow.Author.Needs.{needs}
 use Rattle.run.proofs.page.page_after.Statement.{statement}
 use Rattle.run.proofs.page.page_after.Tie as tie
+use Rattle.run.proofs.page.page_after.Reads as reads
+use Rattle.run.proofs.page.page_after.Lts as lts
+use Rattle.calls.proofs.reading.Reads as reading-reads
+use Rattle.run.proofs.held.run_events.Reads as run-events-reads
+use Rattle.run.proofs.opening.opened.Reads as opened-reads
+use Rattle.run.proofs.slots.put_page.Reads as put-page-reads
+
+opened-requires : tie.Need-opened-requires
+opened-requires c κs = search needs
 
 run-events-requires : tie.Need-run-events-requires
 run-events-requires c κs = search needs
@@ -10,7 +19,9 @@ reading-requires : tie.Need-reading-requires
 reading-requires c κs = search needs
 
 put-page-requires : tie.Need-put-page-requires
-put-page-requires c κs = search needs
+put-page-requires c κs =
+    let start = c .before .before .before .before .before .before .before .before .before .before .before .before .before .before .before .before .before .before in
+    (start .pre .room, search counts-few)
 
 same-length : tie.Need-same-length
 same-length c = search needs
@@ -28,6 +39,7 @@ pub page-after-spec : {M : Type 1} → statement M
 page-after-spec =
     tie.close
     (tie.spec
+    opened-requires
     run-events-requires
     reading-requires
     put-page-requires

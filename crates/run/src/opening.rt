@@ -1,0 +1,29 @@
+// The bench of a roll, opened on the lent lists.
+ghost use mathlib.Core.Path.{_≡_};
+ghost use Rattle.bench.specs.Answers.{lentAs};
+ghost use Rattle.run.specs.RollSteps.{Shaped};
+ghost use Rattle.run.specs.Held.{openingOf, openRefuses};
+use bench::Bench;
+use bench::Start;
+
+// The roll's n or own number, or the lists, are refused.
+pub(crate) fn is_shut(roll: &[u8], names: &[u64], counts: &[u16]) -> bool
+    requires { ⌜ Shaped (now roll) ⌝ }
+    ensures { λ r. ⌜ r ≡ openRefuses (now (roll .entry)) (lentAs (now (names .entry)) (now (counts .entry))) ⌝ }
+{
+    let started = calls::open(roll[0], roll[1], names, counts);
+    let answer = started.answer;
+    match answer {
+        Start::Done => false,
+        Start::Refused(_) => true,
+    }
+}
+
+// Its record.
+pub(crate) fn opened(roll: &[u8], names: &[u64], counts: &[u16]) -> Bench
+    requires { ⌜ Shaped (now roll) ⌝ }
+    ensures { λ r. ⌜ r ≡ openingOf (now (roll .entry)) (lentAs (now (names .entry)) (now (counts .entry))) .bench ⌝ }
+{
+    let started = calls::open(roll[0], roll[1], names, counts);
+    started.bench
+}
