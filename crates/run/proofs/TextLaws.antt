@@ -3,7 +3,7 @@ use Prim.Native.Nat.{ℕ, suc, _+_, _-_, _/_, _%_, _≤_, _<_}
 use native.Mathlib.Numerals.{add-one}
 use native.Mathlib.Omega.{arith}
 use mathlib.Core.Bool.{Bool}
-use mathlib.Core.List.{List, [], _∷_, _++_}
+use mathlib.Core.List.{List, [], _∷_, _++_, append-assoc}
 use mathlib.Core.Path.{_≡_, refl, sym, ap, _∙_}
 use borrow.Author.Tests.{lt-ltb, le-ltb}
 use lib.ListN.{length, getD, set, drop, length-append}
@@ -12,7 +12,8 @@ use Rattle.message.specs.Numbers.{put}
 use Rattle.message.proofs.PartLaws.{put-append}
 use Rattle.bench.specs.declared.Made.{Made}
 use Rattle.run.specs.declared.Answered.{Answered}
-use Rattle.run.specs.Texts.{digits}
+use Rattle.run.specs.Texts.{ascii, digits, decimal}
+use Rattle.run.specs.RollText.{firstLine}
 use Rattle.run.specs.RollSteps.{actedText, answerText, Puts}
 
 -- ---- a word, byte by byte
@@ -57,14 +58,17 @@ module _ (xs ys zs : List ℕ) (at : ℕ) (l : List ℕ) (p : ℕ) (m : List ℕ
   pub puts-three : Puts xs at l p m → Puts ys p m q o → Puts zs q o r u → Puts (xs ++ (ys ++ zs)) at l r u
   puts-three f g h = puts-then xs (ys ++ zs) at l p m r u f (puts-then ys zs p m q o r u g h)
 
-  module _ (xs′ ys′ : List ℕ) (r′ : ℕ) (u′ : List ℕ) (r″ : ℕ) (u″ : List ℕ) where
-    pub puts-five :
-        Puts xs at l p m → Puts ys p m q o → Puts zs q o r u → Puts xs′ r u r′ u′ → Puts ys′ r′ u′ r″ u″
-        → Puts (xs ++ (ys ++ (zs ++ (xs′ ++ ys′)))) at l r″ u″
-    puts-five f g h i j =
-        puts-then xs (ys ++ (zs ++ (xs′ ++ ys′))) at l p m r″ u″ f
-        (puts-then ys (zs ++ (xs′ ++ ys′)) p m q o r″ u″ g
-        (puts-then zs (xs′ ++ ys′) q o r u r″ u″ h (puts-then xs′ ys′ r u r′ u′ r″ u″ i j)))
+-- a word and its number, and then the rest
+pub puts-after : (xs ys zs : List ℕ) (at : ℕ) (l : List ℕ) (p : ℕ) (m : List ℕ) (r : ℕ) (u : List ℕ) → Puts (xs ++ ys) at l p m → Puts zs p m r u
+    → Puts (xs ++ (ys ++ zs)) at l r u
+puts-after xs ys zs at l p m r u f g = rw (← append-assoc xs ys zs) (puts-then (xs ++ ys) zs at l p m r u f g)
+
+pub puts-first : (own n : ℕ) (l : List ℕ) (p : ℕ) (m : List ℕ) (q : ℕ) (o : List ℕ) (r : ℕ) (u : List ℕ) → Puts (ascii "bench " ++ decimal own) 0 l p m
+    → Puts (ascii " of " ++ decimal n) p m q o → Puts (ascii "\n") q o r u → Puts (firstLine own n) 0 l r u
+unfolding firstLine
+puts-first own n l p m q o r u f g h =
+    puts-after (ascii "bench ") (decimal own) (ascii " of " ++ (decimal n ++ ascii "\n")) 0 l p m r u f
+    (puts-after (ascii " of ") (decimal n) (ascii "\n") p m q o r u g h)
 
 -- ---- digits
 

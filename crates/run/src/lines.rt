@@ -2,9 +2,9 @@
 ghost use Prim.Native.Nat.{_+_, _≤_};
 ghost use mathlib.Core.List.{_++_};
 ghost use lib.ListN.{length};
-ghost use Rattle.run.specs.Texts.{ascii, decimal};
+ghost use Rattle.run.specs.Texts.{ascii, decimal, mostDigits};
 ghost use Rattle.run.specs.RollText.{firstLine, markText};
-ghost use Rattle.run.specs.RollSteps.{lineRoom, endText, startText, takenText, standText, actedText, answerText, Puts};
+ghost use Rattle.run.specs.RollSteps.{lineRoom, startText, takenText, standText, actedText, answerText, Puts};
 use super::Answered;
 use super::texts::put_decimal;
 use super::texts::put_word;
@@ -12,27 +12,34 @@ use bench::Made;
 use bench::Start;
 use bench::Taken;
 
+// A word, and a number after it.
+fn put_numbered(text: &mut [u8], at: usize, word: &[u8], x: u32) -> usize
+    requires { ⌜ at + length (now word) + mostDigits ≤ length (now text) ⌝ }
+    ensures { λ r. ⌜ Puts (now (word .entry) ++ decimal x) at (now (text .entry)) r (now (text .exit)) ⌝ }
+    ensures { λ r. ⌜ r ≤ at + length (now (word .entry)) + mostDigits ⌝ }
+{
+    let p = put_word(text, at, word);
+    put_decimal(text, p, x)
+}
+
 pub(crate) fn put_first_line(text: &mut [u8], own: u8, n: u8) -> usize
     requires { ⌜ lineRoom ≤ length (now text) ⌝ }
     ensures { λ r. ⌜ Puts (firstLine own n) 0 (now (text .entry)) r (now (text .exit)) ⌝ }
     ensures { λ r. ⌜ r ≤ lineRoom ⌝ }
 {
-    let p = put_word(text, 0, b"bench ");
-    let q = put_decimal(text, p, own as u32);
-    let r = put_word(text, q, b" of ");
-    let s = put_decimal(text, r, n as u32);
-    put_word(text, s, b"\n")
+    let p = put_numbered(text, 0, b"bench ", own as u32);
+    let q = put_numbered(text, p, b" of ", n as u32);
+    put_word(text, q, b"\n")
 }
 
-// The end of a line that says a refusal's number.
-fn put_refusal(text: &mut [u8], at: usize, number: u8) -> usize
-    requires { ⌜ at + 12 ≤ length (now text) ⌝ }
-    ensures { λ r. ⌜ Puts (endText (decimal number)) at (now (text .entry)) r (now (text .exit)) ⌝ }
-    ensures { λ r. ⌜ r ≤ at + 12 ⌝ }
+// A refusal: its number ends the line.
+fn put_refused(text: &mut [u8], at: usize, word: &[u8], number: u8) -> usize
+    requires { ⌜ at + length (now word) + 11 ≤ length (now text) ⌝ }
+    ensures { λ r. ⌜ Puts (now (word .entry) ++ (decimal number ++ ascii "\n")) at (now (text .entry)) r (now (text .exit)) ⌝ }
+    ensures { λ r. ⌜ r ≤ at + length (now (word .entry)) + 11 ⌝ }
 {
-    let p = put_word(text, at, b" ");
-    let q = put_decimal(text, p, number as u32);
-    put_word(text, q, b"\n")
+    let p = put_numbered(text, at, word, number as u32);
+    put_word(text, p, b"\n")
 }
 
 fn put_start(text: &mut [u8], at: usize, answer: Start) -> usize
@@ -42,7 +49,7 @@ fn put_start(text: &mut [u8], at: usize, answer: Start) -> usize
 {
     match answer {
         Start::Done => put_word(text, at, b" ok\n"),
-        Start::Refused(number) => put_refusal(text, at, number),
+        Start::Refused(number) => put_refused(text, at, b" ", number),
     }
 }
 
@@ -51,18 +58,8 @@ fn put_begun(text: &mut [u8], at: usize, beat: u32, answer: Start) -> usize
     ensures { λ r. ⌜ Puts (ascii "begin " ++ (decimal beat ++ startText answer)) at (now (text .entry)) r (now (text .exit)) ⌝ }
     ensures { λ r. ⌜ r ≤ at + lineRoom ⌝ }
 {
-    let p = put_word(text, at, b"begin ");
-    let q = put_decimal(text, p, beat);
-    put_start(text, q, answer)
-}
-
-fn put_not_taken(text: &mut [u8], at: usize, number: u8) -> usize
-    requires { ⌜ at + lineRoom ≤ length (now text) ⌝ }
-    ensures { λ r. ⌜ Puts (ascii "take" ++ endText (decimal number)) at (now (text .entry)) r (now (text .exit)) ⌝ }
-    ensures { λ r. ⌜ r ≤ at + lineRoom ⌝ }
-{
-    let p = put_word(text, at, b"take");
-    put_refusal(text, p, number)
+    let p = put_numbered(text, at, b"begin ", beat);
+    put_start(text, p, answer)
 }
 
 fn put_taken(text: &mut [u8], at: usize, answer: Taken) -> usize
@@ -74,7 +71,7 @@ fn put_taken(text: &mut [u8], at: usize, answer: Taken) -> usize
         Taken::First => put_word(text, at, b"take first\n"),
         Taken::Second => put_word(text, at, b"take second\n"),
         Taken::Known => put_word(text, at, b"take known\n"),
-        Taken::Refused(number) => put_not_taken(text, at, number),
+        Taken::Refused(number) => put_refused(text, at, b"take ", number),
     }
 }
 
@@ -96,38 +93,18 @@ fn put_stand(text: &mut [u8], at: usize, decided: u8, parted: bool) -> usize
     ensures { λ r. ⌜ Puts (standText decided parted) at (now (text .entry)) r (now (text .exit)) ⌝ }
     ensures { λ r. ⌜ r ≤ at + 19 ⌝ }
 {
-    let p = put_word(text, at, b" ");
-    let q = put_decimal(text, p, decided as u32);
-    put_mark(text, q, parted)
+    let p = put_numbered(text, at, b" ", decided as u32);
+    put_mark(text, p, parted)
 }
 
-fn put_idle(text: &mut [u8], at: usize, decided: u8, parted: bool) -> usize
-    requires { ⌜ at + lineRoom ≤ length (now text) ⌝ }
-    ensures { λ r. ⌜ Puts (ascii "act none 0" ++ standText decided parted) at (now (text .entry)) r (now (text .exit)) ⌝ }
-    ensures { λ r. ⌜ r ≤ at + lineRoom ⌝ }
-{
-    let p = put_word(text, at, b"act none 0");
-    put_stand(text, p, decided, parted)
-}
-
-// A message was made: its kind's word, its blocks, and what stands.
+// What was made: its kind's word, its blocks, and what stands.
 fn put_made(text: &mut [u8], at: usize, word: &[u8], k: u8, decided: u8, parted: bool) -> usize
     requires { ⌜ (at + lineRoom ≤ length (now text)) × (length (now word) ≤ 19) ⌝ }
     ensures { λ r. ⌜ Puts (now (word .entry) ++ (decimal k ++ standText decided parted)) at (now (text .entry)) r (now (text .exit)) ⌝ }
     ensures { λ r. ⌜ r ≤ at + lineRoom ⌝ }
 {
-    let p = put_word(text, at, word);
-    let q = put_decimal(text, p, k as u32);
-    put_stand(text, q, decided, parted)
-}
-
-fn put_not_acted(text: &mut [u8], at: usize, number: u8) -> usize
-    requires { ⌜ at + lineRoom ≤ length (now text) ⌝ }
-    ensures { λ r. ⌜ Puts (ascii "act" ++ endText (decimal number)) at (now (text .entry)) r (now (text .exit)) ⌝ }
-    ensures { λ r. ⌜ r ≤ at + lineRoom ⌝ }
-{
-    let p = put_word(text, at, b"act");
-    put_refusal(text, p, number)
+    let p = put_numbered(text, at, word, k as u32);
+    put_stand(text, p, decided, parted)
 }
 
 fn put_acted(text: &mut [u8], at: usize, answer: Made, decided: u8, parted: bool) -> usize
@@ -136,10 +113,10 @@ fn put_acted(text: &mut [u8], at: usize, answer: Made, decided: u8, parted: bool
     ensures { λ r. ⌜ r ≤ at + lineRoom ⌝ }
 {
     match answer {
-        Made::Nothing => put_idle(text, at, decided, parted),
+        Made::Nothing => put_made(text, at, b"act none ", 0, decided, parted),
         Made::Log(k) => put_made(text, at, b"act log ", k, decided, parted),
         Made::Proposal(k) => put_made(text, at, b"act proposal ", k, decided, parted),
-        Made::Refused(number) => put_not_acted(text, at, number),
+        Made::Refused(number) => put_refused(text, at, b"act ", number),
     }
 }
 

@@ -1,9 +1,13 @@
 use Rattle.run.proofs.TextLaws.{puts-by}
-use Rattle.run.specs.RollSteps.{startText}
+use Rattle.run.specs.RollSteps.{endText, startText}
 use native.Mathlib.Omega.{arith}
 use borrow.Author.Needs.{needs}
 use Rattle.run.proofs.lines.put_start.Statement.{statement}
 use Rattle.run.proofs.lines.put_start.Tie as tie
+use Rattle.run.proofs.lines.put_start.Reads as reads
+use Rattle.run.proofs.lines.put_start.Lts as lts
+use Rattle.run.proofs.lines.put_refused.Reads as put-refused-reads
+use Rattle.run.proofs.texts.put_word.Reads as put-word-reads
 
 enum-told : tie.Need-enum-told
 enum-told c = search needs
@@ -17,8 +21,11 @@ put-word-requires c κs = search needs
 enum-known-answer : tie.Need-enum-known-answer
 enum-known-answer c = search needs
 
-put-refusal-requires : tie.Need-put-refusal-requires
-put-refusal-requires c κs = search needs
+slice-aggregate-put-refused : tie.Need-slice-aggregate-put-refused
+slice-aggregate-put-refused c = search needs
+
+put-refused-requires : tie.Need-put-refused-requires
+put-refused-requires c κs = search needs
 
 same-length : tie.Need-same-length
 same-length c = search needs
@@ -31,7 +38,7 @@ same-length-2 : tie.Need-same-length-2
 same-length-2 c = search needs
 
 returns-2 : tie.Need-returns-2
-unfolding startText
+unfolding startText endText
 returns-2 c = (search (puts-by startText), omega arith)
 
 pub put-start-spec : {M : Type 1} → statement M
@@ -42,7 +49,8 @@ put-start-spec =
     slice-aggregate-put-word
     put-word-requires
     enum-known-answer
-    put-refusal-requires
+    slice-aggregate-put-refused
+    put-refused-requires
     same-length
     returns
     same-length-2

@@ -1,9 +1,13 @@
 use Rattle.run.proofs.TextLaws.{puts-by}
-use Rattle.run.specs.RollSteps.{takenText}
+use Rattle.run.specs.RollSteps.{endText, takenText}
 use native.Mathlib.Omega.{arith}
 use borrow.Author.Needs.{needs}
 use Rattle.run.proofs.lines.put_taken.Statement.{statement}
 use Rattle.run.proofs.lines.put_taken.Tie as tie
+use Rattle.run.proofs.lines.put_taken.Reads as reads
+use Rattle.run.proofs.lines.put_taken.Lts as lts
+use Rattle.run.proofs.lines.put_refused.Reads as put-refused-reads
+use Rattle.run.proofs.texts.put_word.Reads as put-word-reads
 
 enum-told : tie.Need-enum-told
 enum-told c = search needs
@@ -35,8 +39,11 @@ put-word-requires-3 c κs = search needs
 enum-known-answer : tie.Need-enum-known-answer
 enum-known-answer c = search needs
 
-put-not-taken-requires : tie.Need-put-not-taken-requires
-put-not-taken-requires c κs = search needs
+slice-aggregate-put-refused : tie.Need-slice-aggregate-put-refused
+slice-aggregate-put-refused c = search needs
+
+put-refused-requires : tie.Need-put-refused-requires
+put-refused-requires c κs = search needs
 
 same-length : tie.Need-same-length
 same-length c = search needs
@@ -63,7 +70,7 @@ same-length-4 : tie.Need-same-length-4
 same-length-4 c = search needs
 
 returns-4 : tie.Need-returns-4
-unfolding takenText
+unfolding takenText endText
 returns-4 c = (search (puts-by takenText), omega arith)
 
 pub put-taken-spec : {M : Type 1} → statement M
@@ -80,7 +87,8 @@ put-taken-spec =
     slice-aggregate-put-word-3
     put-word-requires-3
     enum-known-answer
-    put-not-taken-requires
+    slice-aggregate-put-refused
+    put-refused-requires
     same-length
     returns
     same-length-2
