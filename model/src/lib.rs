@@ -7,3 +7,10 @@ pub mod record;
 pub mod rolls;
 pub mod sketch;
 pub mod volume;
+
+// By this name the tests of the whole and the programs know the library.
+#[cfg(test)]
+extern crate self as model;
+#[cfg(test)]
+#[path = "../tests/all.rs"]
+mod all;

@@ -173,7 +173,7 @@ pub fn write_events(n: u8, own: u8, events: &[(u8, Vec<u8>)]) -> Vec<u8> {
         roll.extend([*kind, 0]);
         roll.extend((body.len() as u16).to_le_bytes());
     }
-    roll.extend(events.iter().flat_map(|(_, body)| body));
+    events.iter().for_each(|(_, body)| roll.extend_from_slice(body));
     roll
 }
 

@@ -11,6 +11,8 @@ pub struct Proved {
     n: u8,
     own: u8,
     calls: Vec<Call>,
+    /// The calls so far, as the library takes them.
+    roll: Vec<u8>,
     text: String,
     /// The beat last begun.
     beat: u32,
@@ -25,7 +27,8 @@ pub struct Proved {
 impl Proved {
     /// A fresh bench, or refusal 7.
     pub fn open(n: u8, own: u8) -> Result<Proved, u8> {
-        let text = roll_text(&write_roll(n, own, &[]));
+        let roll = write_roll(n, own, &[]);
+        let text = roll_text(&roll);
         if text == NO_ROLL {
             return Err(7);
         }
@@ -33,6 +36,7 @@ impl Proved {
             n,
             own,
             calls: vec![],
+            roll,
             text: String::from_utf8_lossy(&text).into_owned(),
             beat: 0,
             decided: None,
@@ -40,10 +44,6 @@ impl Proved {
             blocks: 0,
             parted: false,
         })
-    }
-
-    fn roll(&self) -> Vec<u8> {
-        write_roll(self.n, self.own, &self.calls)
     }
 
     /// What the text's last line says of the last call.
@@ -69,7 +69,7 @@ impl Proved {
 
     /// The message that the last call made.
     fn made(&self) -> Message {
-        let bytes = roll_made(&self.roll(), self.calls.len() - 1).expect("the text says that one was made");
+        let bytes = roll_made(&self.roll, self.calls.len() - 1).expect("the text says that one was made");
         Message::read(self.n, &bytes).expect("what a bench makes is a message")
     }
 }
@@ -86,7 +86,8 @@ impl Machine for Proved {
         let is_deciding = matches!(call, Call::Act { .. }) && self.beat % 4 == 2;
         let read = if is_deciding { self.page().reading.log } else { None };
         self.calls.push(call.clone());
-        self.text = String::from_utf8_lossy(&roll_text(&self.roll())).into_owned();
+        self.roll = write_roll(self.n, self.own, &self.calls);
+        self.text = String::from_utf8_lossy(&roll_text(&self.roll)).into_owned();
         let reply = self.reply();
         self.decided = None;
         if matches!(reply, Reply::Acted(_)) {
@@ -109,7 +110,7 @@ impl Machine for Proved {
     }
 
     fn page(&self) -> Page {
-        let held = roll_page(&self.roll(), self.calls.len()).expect("the calls so far are a roll");
+        let held = roll_page(&self.roll, self.calls.len()).expect("the calls so far are a roll");
         Page::of_held(&held, self.beat, self.blocks, self.parted)
     }
 }
