@@ -7,7 +7,7 @@ use mathlib.Core.Path.{_≡_, refl, sym, ap, subst, _∙_}
 use Rattle.message.proofs.TestLaws.{either}
 use Rattle.bench.specs.Terms.{Terms, Seat, seatOf}
 use Rattle.bench.specs.Layout.{Lent, outOfRange, shortLists}
-use Rattle.bench.specs.Calls.{Call, begin, receive, act, refused, done, State, Opening, Typed}
+use Rattle.bench.specs.Calls.{Call, begin, receive, act, refused, done, State, Opening, Step, Typed}
 use Rattle.bench.specs.History.{History, fresh, openRefusal}
 use Rattle.bench.specs.Record.{freshBench}
 use Rattle.bench.specs.ByRecord.{notOpened, openOf}
@@ -16,15 +16,25 @@ use Rattle.bench.proofs.Ties.{Tie}
 use Rattle.bench.proofs.CallTies.{Agrees, begin-agrees, receive-agrees, open-tie}
 use Rattle.bench.proofs.Refusals.{open-7, open-8, open-done, begin-lent}
 use Rattle.bench.proofs.Acting.{act-agrees}
-use Rattle.demand.specs.Demand.{Way, call, OpensRightly, OpenedAs, Demand3}
+use Rattle.demand.specs.Demand.{Way, byValue, onLent, call, OpensRightly, OpenedAs, Demand3}
 use Rattle.demand.specs.TheBench.{theBench}
 use Rattle.demand.proofs.Reduce.{Simulation, faithful, demand3}
 
--- each call agrees with the history's, by value or on a lent record
+-- a call on a lent record does what it does by value
+either-way : (w : Way) (x : State) (c : Call) → call theBench w x c ≡ call theBench byValue x c
+either-way byValue x c = refl
+either-way onLent x (begin b) = refl
+either-way onLent x (receive bytes) = refl
+either-way onLent x (act block priority out) = refl
+
+-- each call agrees with the history's
+agrees-by-value : (S : Seat) (x : State) (p : History) (c : Call) → Tie S x p → Typed c → Agrees S x p c (call theBench byValue x c)
+agrees-by-value S x p (begin b) t y = begin-agrees S x p t b
+agrees-by-value S x p (receive bytes) t y = receive-agrees S x p t bytes (y .0)
+agrees-by-value S x p (act block priority out) t y = act-agrees S x p t block priority out y
+
 agrees : (S : Seat) (w : Way) (x : State) (p : History) (c : Call) → Tie S x p → Typed c → Agrees S x p c (call theBench w x c)
-agrees S w x p (begin b) t y = begin-agrees S x p t b
-agrees S w x p (receive bytes) t y = receive-agrees S x p t bytes (y .0)
-agrees S w x p (act block priority out) t y = act-agrees S x p t block priority out y
+agrees S w x p c t y = subst (Agrees S x p c) (sym (either-way w x c)) (agrees-by-value S x p c t y)
 
 -- ---- Open
 
@@ -79,7 +89,7 @@ bench-simulates = record {
   keeps = λ S w x p c t y. agrees S w x p c t y .tied;
   same-standing = λ S x p t. t .stand-is;
   refusals = λ S w x p c k t y e. agrees S w x p c t y .left k e;
-  begins = λ S w x p b t y. begin-lent x b;
+  begins = λ S w x p b t y. ap (λ (s : Step). s .held .lent) (either-way w x (begin b)) ∙ begin-lent x b;
 }
 
 -- Demand 3.
