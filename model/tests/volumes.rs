@@ -1,5 +1,5 @@
 //! Volumes of many benches by fixed seeds: demand 3 under its premises, each mistake that document 01 lists, and each premise
-//! dropped by itself. `cargo test volumes:: -- --nocapture` shows what each run came to.
+//! dropped by itself. `cargo test --lib volumes:: -- --nocapture` shows what each run came to.
 use model::history::bench::Rules;
 use model::history::roll;
 use model::volume::compare::first_difference;
