@@ -5,7 +5,7 @@ use native.Mathlib.Omega.{arith}
 use mathlib.Core.Bool.{Bool, true, false}
 use mathlib.Core.List.{List}
 use mathlib.Core.Path.{_≡_, refl, sym, ap, _∙_}
-use lib.ListN.{length, getD, set}
+use lib.ListN.{length, getD, set, length-set}
 use lib.Seq.{getD-set-same, getD-set-other}
 use Rattle.agreement.specs.Limits.{mostSenders}
 use Rattle.agreement.specs.Sets.{share, weigh, count}
@@ -38,17 +38,26 @@ count-all p n i e h g = let s : i ≡ mostSenders = omega arith in e ∙ ap (λ 
 
 -- ---- a set put in an array
 
-pub set-none : (p : ℕ → Bool) (marks : List Bool) → SetOf p 0 marks
-set-none p marks = record { at = λ j h. absurd (omega arith) }
+-- the senders below j are in it, and it has a place for each
+pub record Filling (p : ℕ → Bool) (j : ℕ) (marks : List Bool) : Type 0 where
+  pub few : j ≤ mostSenders
+  pub long : length marks ≡ mostSenders
+  pub at : (k : ℕ) → k < j → getD marks k false ≡ p k
 
-pub set-next : (p : ℕ → Bool) (marks : List Bool) (x : Bool) (j : ℕ) → SetOf p j marks → length marks ≡ mostSenders → j < mostSenders → x ≡ p j
-    → SetOf p (j + 1) (set marks j x)
-set-next p marks x j h s l e = record {
-  at = λ k q. elim (decLe j k) [
-    | yes a ↦ let t : k ≡ j = omega arith in ap (λ (i : ℕ). getD (set marks j x) i false) t ∙ getD-set-same marks j x false (omega arith) ∙ e ∙ ap p (sym t)
-    | no a ↦ getD-set-other marks j k x false (λ t. omega arith) ∙ h .at k (omega arith)
-  ];
-}
+pub set-none : (p : ℕ → Bool) (marks : List Bool) → length marks ≡ mostSenders → Filling p 0 marks
+set-none p marks l = record { few = omega arith; long = l; at = λ j h. absurd (omega arith) }
 
-pub set-all : (p : ℕ → Bool) (marks : List Bool) (j : ℕ) → SetOf p j marks → mostSenders ≤ j → SetOf p mostSenders marks
+pub set-next : (p : ℕ → Bool) (marks : List Bool) (x : Bool) (j : ℕ) → Filling p j marks → j < mostSenders → x ≡ p j → Filling p (j + 1) (set marks j x)
+set-next p marks x j h l e =
+    let s = h .long in
+    record {
+      few = omega arith;
+      long = length-set marks j x ∙ s;
+      at = λ k q. elim (decLe j k) [
+        | yes a ↦ let t : k ≡ j = omega arith in ap (λ (i : ℕ). getD (set marks j x) i false) t ∙ getD-set-same marks j x false (omega arith) ∙ e ∙ ap p (sym t)
+        | no a ↦ getD-set-other marks j k x false (λ t. omega arith) ∙ h .at k (omega arith)
+      ];
+    }
+
+pub set-all : (p : ℕ → Bool) (marks : List Bool) (j : ℕ) → Filling p j marks → mostSenders ≤ j → SetOf p mostSenders marks
 set-all p marks j h g = record { at = λ k q. h .at k (omega arith) }

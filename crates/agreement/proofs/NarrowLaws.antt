@@ -6,7 +6,7 @@ use mathlib.Core.List.{List}
 use mathlib.Core.Path.{_≡_, refl, sym, ap, _∙_}
 use borrow.Author.Tests.{ltb-true, ltb-false, lt-ltb, le-ltb, leb-true, le-leb, lt-leb}
 use lib.Dec.{ltb, leb, eqb}
-use lib.ListN.{length, getD, set, replicate}
+use lib.ListN.{getD, set, replicate}
 use Rattle.message.specs.Limits.{mostBlocks}
 use Rattle.message.specs.Numbers.{part}
 use Rattle.message.specs.Logs.{sameBlock, isPrefix, inStep}
@@ -17,7 +17,7 @@ use Rattle.message.proofs.ListedLaws.{length-at}
 use Rattle.agreement.specs.Limits.{mostSenders, placeOf}
 use Rattle.agreement.specs.Sets.{weigh, count, member}
 use Rattle.agreement.specs.Steps.{SetOf, nextBlock, narrowed, runLength, alike, narrowedBy, Far}
-use Rattle.agreement.proofs.CountLaws.{set-next}
+use Rattle.agreement.proofs.CountLaws.{Filling, set-next}
 
 pub and-true : (t : Bool) → (t && true) ≡ t
 and-true true = refl
@@ -119,12 +119,12 @@ module _ (names counts : List ℕ) where
       (λ h. le-leb (l + k) y (let x = leb-true (l + suc k) y h in omega arith))
 
   pub run-next : (base : ℕ) (lengths : List ℕ) (followers : List Bool) (l c a j : ℕ) (next : List Bool) (r x : Bool)
-      → SetOf (narrowedBy names counts base lengths followers l c runLength) j next → length next ≡ mostSenders → j < mostSenders
+      → Filling (narrowedBy names counts base lengths followers l c runLength) j next → j < mostSenders
       → a ≡ placeOf base c + l → r ≡ alike names counts a (placeOf base j + l) runLength
       → x ≡ (member followers j && (leb (l + runLength) (getD lengths j 0) && r))
-      → SetOf (narrowedBy names counts base lengths followers l c runLength) (j + 1) (set next j x)
-  run-next base lengths followers l c a j next r x h s k e q f =
-      set-next (narrowedBy names counts base lengths followers l c runLength) next x j h s k
+      → Filling (narrowedBy names counts base lengths followers l c runLength) (j + 1) (set next j x)
+  run-next base lengths followers l c a j next r x h k e q f =
+      set-next (narrowedBy names counts base lengths followers l c runLength) next x j h k
       (f ∙ ap (λ (t : Bool). member followers j && (leb (l + runLength) (getD lengths j 0) && t)) (q ∙ ap (λ (p : ℕ). alike names counts p (placeOf base j + l) runLength) e))
 
   module _ (base : ℕ) (lengths : List ℕ) (followers : List Bool) (l c : ℕ) where
@@ -139,10 +139,10 @@ module _ (names counts : List ℕ) where
   -- ---- the loop
 
   pub narrow-next : (base : ℕ) (lengths : List ℕ) (followers : List Bool) (l c name count j : ℕ) (next : List Bool) (x : Bool)
-      → SetOf (narrowed names counts base lengths followers l (nextBlock names counts base l c)) j next → length next ≡ mostSenders → j < mostSenders
+      → Filling (narrowed names counts base lengths followers l (nextBlock names counts base l c)) j next → j < mostSenders
       → name ≡ getD names (placeOf base c + l) 0 → count ≡ getD counts (placeOf base c + l) 0
       → x ≡ (member followers j && (ltb l (getD lengths j 0) && (eqb name (getD names (placeOf base j + l) 0) && eqb count (getD counts (placeOf base j + l) 0))))
-      → SetOf (narrowed names counts base lengths followers l (nextBlock names counts base l c)) (j + 1) (set next j x)
-  narrow-next base lengths followers l c name count j next x h s k n m e =
-      set-next (narrowed names counts base lengths followers l (nextBlock names counts base l c)) next x j h s k
+      → Filling (narrowed names counts base lengths followers l (nextBlock names counts base l c)) (j + 1) (set next j x)
+  narrow-next base lengths followers l c name count j next x h k n m e =
+      set-next (narrowed names counts base lengths followers l (nextBlock names counts base l c)) next x j h k
       (e ∙ (λ i. member followers j && (ltb l (getD lengths j 0) && (eqb (n i) (getD names (placeOf base j + l) 0) && eqb (m i) (getD counts (placeOf base j + l) 0)))))

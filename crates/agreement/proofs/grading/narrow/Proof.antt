@@ -1,16 +1,16 @@
-use Rattle.agreement.proofs.CountLaws.{set-none, set-all}
+use Rattle.agreement.proofs.CountLaws.{Filling, set-none, set-all}
 use Rattle.agreement.proofs.NarrowLaws.{narrow-next}
-use Prim.Native.Nat.{_+_, _≤_, _-_}
+use Prim.Native.Nat.{_+_, _-_}
 use mathlib.Core.Path.{_≡_, refl}
-use lib.ListN.{length, length-set, getD}
+use lib.ListN.{getD}
 use Rattle.agreement.specs.Limits.{mostSenders, placeOf}
-use Rattle.agreement.specs.Steps.{SetOf, nextBlock, narrowed}
+use Rattle.agreement.specs.Steps.{nextBlock, narrowed}
 use borrow.Author.Needs.{needs}
 use Rattle.agreement.proofs.grading.narrow.Statement.{statement}
 use Rattle.agreement.proofs.grading.narrow.Tie as tie
 
 abbrev Inv-loop : tie.InvT-loop
-Inv-loop names counts base l c lengths followers a name count next₀ j₀ next j = ((j ≤ mostSenders) × (length next ≡ mostSenders)) × (((name ≡ getD names (placeOf base c + l) 0) × (count ≡ getD counts (placeOf base c + l) 0)) × SetOf (narrowed names counts base lengths followers l (nextBlock names counts base l c)) j next)
+Inv-loop names counts base l c lengths followers a name count next₀ j₀ next j = ((name ≡ getD names (placeOf base c + l) 0) × (count ≡ getD counts (placeOf base c + l) 0)) × Filling (narrowed names counts base lengths followers l (nextBlock names counts base l c)) j next
 
 abbrev μ-loop : tie.MeasureT-loop
 μ-loop names counts base l c lengths followers a name count next₀ j₀ next j = mostSenders - j
@@ -37,7 +37,7 @@ shared-slice-read-count : tie.Need-shared-slice-read-count Inv-loop μ-loop
 shared-slice-read-count c = search needs
 
 loop-holds : tie.Need-loop-holds Inv-loop μ-loop
-loop-holds c = ((search needs, refl), ((refl, refl), set-none _ _))
+loop-holds c = ((refl, refl), set-none _ _ refl)
 
 mul-b : tie.Need-mul-b Inv-loop μ-loop
 mul-b c = search needs
@@ -79,10 +79,10 @@ loop-less : tie.Need-loop-less Inv-loop μ-loop
 loop-less c = search needs
 
 loop-again : tie.Need-loop-again Inv-loop μ-loop
-loop-again c = ((search needs, simp length-set (search needs)), ((search needs, search needs), narrow-next (c .before .before .before .before .before .before .args .names .now) (c .before .before .before .before .before .before .args .counts .now) (c .before .before .before .before .before .before .args .base) (c .before .before .before .before .before .before .args .t3) (c .before .before .before .before .before .before .args .t4) (c .before .before .before .before .before .before .args .l) (c .before .before .before .before .before .before .args .c) _ _ _ _ _ (c .before .before .before .loop .inv .1 .1) (c .before .before .before .loop .inv .0 .1) (c .before .before .loop-test .taken) (c .before .before .before .loop .inv .1 .0 .0) (c .before .before .before .loop .inv .1 .0 .1) refl))
+loop-again c = (c .before .before .before .loop .inv .0, narrow-next (c .before .before .before .before .before .before .args .names .now) (c .before .before .before .before .before .before .args .counts .now) (c .before .before .before .before .before .before .args .base) (c .before .before .before .before .before .before .args .t3) (c .before .before .before .before .before .before .args .t4) (c .before .before .before .before .before .before .args .l) (c .before .before .before .before .before .before .args .c) _ _ _ _ _ (c .before .before .before .loop .inv .1) (c .before .before .loop-test .taken) (c .before .before .before .loop .inv .0 .0) (c .before .before .before .loop .inv .0 .1) refl)
 
 returns : tie.Need-returns Inv-loop μ-loop
-returns c = search set-all
+returns c = set-all _ _ _ (c .before .loop .inv .1) (c .loop-test .left)
 
 pub narrow-spec : {M : Type 1} → statement M
 narrow-spec =

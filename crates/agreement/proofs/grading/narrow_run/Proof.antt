@@ -1,16 +1,15 @@
-use Rattle.agreement.proofs.CountLaws.{set-none, set-all}
+use Rattle.agreement.proofs.CountLaws.{Filling, set-none, set-all}
 use Rattle.agreement.proofs.NarrowLaws.{run-next}
-use Prim.Native.Nat.{_+_, _≤_, _-_}
+use Prim.Native.Nat.{_+_, _-_}
 use mathlib.Core.Path.{_≡_, refl}
-use lib.ListN.{length, length-set}
 use Rattle.agreement.specs.Limits.{mostSenders, placeOf}
-use Rattle.agreement.specs.Steps.{SetOf, runLength, narrowedBy}
+use Rattle.agreement.specs.Steps.{runLength, narrowedBy}
 use borrow.Author.Needs.{needs}
 use Rattle.agreement.proofs.grading.narrow_run.Statement.{statement}
 use Rattle.agreement.proofs.grading.narrow_run.Tie as tie
 
 abbrev Inv-loop : tie.InvT-loop
-Inv-loop names counts base l c lengths followers a next₀ j₀ next j = ((j ≤ mostSenders) × (length next ≡ mostSenders)) × ((a ≡ placeOf base c + l) × SetOf (narrowedBy names counts base lengths followers l c runLength) j next)
+Inv-loop names counts base l c lengths followers a next₀ j₀ next j = (a ≡ placeOf base c + l) × Filling (narrowedBy names counts base lengths followers l c runLength) j next
 
 abbrev μ-loop : tie.MeasureT-loop
 μ-loop names counts base l c lengths followers a next₀ j₀ next j = mostSenders - j
@@ -25,7 +24,7 @@ add-a-2 : tie.Need-add-a-2 Inv-loop μ-loop
 add-a-2 c = search needs
 
 loop-holds : tie.Need-loop-holds Inv-loop μ-loop
-loop-holds c = ((search needs, refl), (refl, set-none _ _))
+loop-holds c = (refl, set-none _ _ refl)
 
 mul-b : tie.Need-mul-b Inv-loop μ-loop
 mul-b c = search needs
@@ -61,10 +60,10 @@ loop-less : tie.Need-loop-less Inv-loop μ-loop
 loop-less c = search needs
 
 loop-again : tie.Need-loop-again Inv-loop μ-loop
-loop-again c = ((search needs, simp length-set (search needs)), (search needs, search run-next))
+loop-again c = (c .before .before .loop .inv .0, run-next (c .before .before .before .before .before .args .names .now) (c .before .before .before .before .before .args .counts .now) (c .before .before .before .before .before .args .base) (c .before .before .before .before .before .args .t3) (c .before .before .before .before .before .args .t4) (c .before .before .before .before .before .args .l) (c .before .before .before .before .before .args .c) _ _ _ _ _ (c .before .before .loop .inv .1) (c .before .loop-test .taken) (c .before .before .loop .inv .0) (c .same-run .ensures) refl)
 
 returns : tie.Need-returns Inv-loop μ-loop
-returns c = search set-all
+returns c = set-all _ _ _ (c .before .loop .inv .1) (c .loop-test .left)
 
 pub narrow-run-spec : {M : Type 1} → statement M
 narrow-run-spec =
