@@ -23,10 +23,10 @@ use Rattle.agreement.specs.declared.Choice.the-variants.{Proposal, Lock}
 
 -- ---- the code's test of one sender, from what it found
 
-pub fits-is : (names counts : List ℕ) (base : ℕ) (g : Proposals) (a k i : ℕ) (r : Bool)
-    → r ≡ prefixAt names counts a k (placeOf base i) (getD (g .lengths) i 0)
+pub fits-is : (names counts : List ℕ) (base : ℕ) (g : Proposals) (a k i p : ℕ) (r : Bool) → p ≡ placeOf base i
+    → r ≡ prefixAt names counts a k p (getD (g .lengths) i 0)
     → (getD (g .filed) i false && (not (getD (g .aside) i false) && r)) ≡ fits names counts base g a k i
-fits-is names counts base g a k i r e = rw e
+fits-is names counts base g a k i p r q e = rw (e, q)
 
 -- ---- the better of two, as the code finds it
 

@@ -16,10 +16,14 @@ use Rattle.message.proofs.ListedLaws.{length-at, log-empty, prefix-at, prefix-t
 use Rattle.agreement.specs.Limits.{mostSenders, placeOf}
 use Rattle.agreement.specs.Sets.{ones, count, member}
 use Rattle.agreement.specs.Record.{filedLog}
-use Rattle.agreement.specs.Steps.{SetOf, backing, Majority, nextBlock, narrowed, runLength, alike, narrowedBy, Far, holding, Voted, Climbing, Following, Climbed}
+use Rattle.agreement.specs.Steps.{SetOf, backing, Majority, nextBlock, narrowed, runLength, alike, narrowedBy, Far, holding, Next, Voted, Climbing, Following, Climbed}
 use Rattle.agreement.specs.declared.Grade.the-variants.{Longest}
 use Rattle.agreement.proofs.SetLaws.{Meet, weigh-mono, weigh-meet, weigh-some, weigh-cong}
 use Rattle.agreement.proofs.NarrowLaws.{and-true, prefix-one-more, prefix-run}
+
+-- a block more than l, where l is not the most
+pub climb-next : {names counts : List ℕ} {base : ℕ} {lengths : List ℕ} {may : List Bool} {all l : ℕ} → Climbing names counts base lengths may all → l < mostBlocks → Next names counts base l
+climb-next k h = record { inNames = k .readable .inNames; inCounts = k .readable .inCounts; few = h }
 
 module _ (names counts : List ℕ) (base : ℕ) (lengths : List ℕ) (may : List Bool) (all : ℕ) where
   -- the first l blocks at sender i's place

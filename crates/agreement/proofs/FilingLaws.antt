@@ -24,9 +24,9 @@ use Rattle.agreement.specs.Filing.{unfit}
 use Rattle.agreement.specs.Filing.{Fit}
 
 -- the code's test, from what it found
-pub unfit-is : (names counts : List ℕ) (base : ℕ) (s : List ℕ) (i : ℕ) (l h : Bool) → l ≡ lacksRoom names counts base → h ≡ holdsLog s
-    → (leb mostSenders i || (l || not h)) ≡ unfit names counts base s i
-unfit-is names counts base s i l h e f = rw (e, f)
+pub unfit-is : (m n base : ℕ) (s : List ℕ) (i : ℕ) (l h : Bool) → l ≡ (ltb m (base + span) || ltb n (base + span)) → h ≡ holdsLog s
+    → (leb mostSenders i || (l || not h)) ≡ (leb mostSenders i || ((ltb m (base + span) || ltb n (base + span)) || not (holdsLog s)))
+unfit-is m n base s i l h e f = rw (e, f)
 
 -- with room from `base` on, a log of at most 64 blocks at a sender's place is within the lists
 pub within-room : (names counts : List ℕ) (base i k : ℕ) → base + span ≤ length names → base + span ≤ length counts → i < mostSenders → k ≤ mostBlocks
@@ -100,18 +100,16 @@ module _ (names counts : List ℕ) (base : ℕ) (s : List ℕ) (i : ℕ) where
         (λ q. matches-inside s names counts a k (f .holds) (within-filed k (leb-true k mostBlocks q)))
         (λ q. matches-long a k (leb-false k mostBlocks q) ∙ sym (unlike a k (leb-false k mostBlocks q)))
 
-    pub is-filed : (lengths : List ℕ) (r : Bool) → r ≡ matchesAt s names counts (placeOf base i) (getD lengths i 0) → r ≡ sameLog (logIn s) (filedLog names counts base lengths i)
-    is-filed lengths r e = e ∙ matches-filed lengths
+    pub is-filed : (lengths : List ℕ) (p : ℕ) (r : Bool) → p ≡ placeOf base i → r ≡ matchesAt s names counts p (getD lengths i 0)
+        → r ≡ sameLog (logIn s) (filedLog names counts base lengths i)
+    is-filed lengths p r q e = e ∙ ap (λ (a : ℕ). matchesAt s names counts a (getD lengths i 0)) q ∙ matches-filed lengths
 
     -- the log in the bytes is stored at the sender's place
-    module _ (r : Bool) (ns cs : List ℕ) (t : Stores (fileOf names counts (placeOf base i) s) r ns cs) where
-      stored-filed : (ns ≡ put names (placeOf base i) (namesOf (logIn s))) × (cs ≡ put counts (placeOf base i) (countsOf (logIn s)))
+    module _ (p : ℕ) (r : Bool) (ns cs : List ℕ) (e : p ≡ placeOf base i) (done : Stores (fileOf names counts p s) r ns cs) where
+      t : Stores (fileOf names counts (placeOf base i) s) r ns cs
+      t = rw e at done
+
+      pub stored-filed : (ns ≡ put names (placeOf base i) (namesOf (logIn s))) × (cs ≡ put counts (placeOf base i) (countsOf (logIn s)))
       stored-filed =
           let ok : (holdsLog s && within names counts (placeOf base i) (countIn s)) ≡ true = rw (f .holds, within-filed (countIn s) few-blocks) in
           stored-inside (holdsLog s && within names counts (placeOf base i) (countIn s)) names counts (placeOf base i) (logIn s) r ns cs ok t .1
-
-      pub stored-names : ns ≡ put names (placeOf base i) (namesOf (logIn s))
-      stored-names = stored-filed .0
-
-      pub stored-counts : cs ≡ put counts (placeOf base i) (countsOf (logIn s))
-      stored-counts = stored-filed .1

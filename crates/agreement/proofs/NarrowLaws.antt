@@ -33,6 +33,12 @@ ltb-suc l y =
     either (ltb l y) (λ t. t ∙ sym (lt-ltb (suc l) (suc y) (omega (arith, ltb-true l y t)))) (λ t. t ∙ sym (le-ltb (suc l) (suc y) (omega (arith, ltb-false l y t))))
 
 module _ (names counts : List ℕ) where
+  -- the blocks after l blocks at two places that the code found
+  pub next-same : (base l i j p q : ℕ) → p ≡ placeOf base i → q ≡ placeOf base j
+      → (eqb (getD names (p + l) 0) (getD names (q + l) 0) && eqb (getD counts (p + l) 0) (getD counts (q + l) 0))
+      ≡ sameBlock (nextBlock names counts base l i) (nextBlock names counts base l j)
+  next-same base l i j p q e f = rw (e, f)
+
   -- the blocks at places a and b are the same
   abbrev same : ℕ → ℕ → Bool
   same a b = sameBlock (blockAt names counts a) (blockAt names counts b)
@@ -118,14 +124,15 @@ module _ (names counts : List ℕ) where
       ∙ join z (leb (l + k) y) (leb (l + suc k) y) (alike names counts (a + l) (b + l) k) (same (a + l + k) (b + l + k))
       (λ h. le-leb (l + k) y (let x = leb-true (l + suc k) y h in omega arith))
 
-  pub run-next : (base : ℕ) (lengths : List ℕ) (followers : List Bool) (l c a j : ℕ) (next : List Bool) (r x : Bool)
+  -- p and q are the places of senders c and j, as the code found them
+  pub run-next : (base : ℕ) (lengths : List ℕ) (followers : List Bool) (l c j p q : ℕ) (next : List Bool) (r x : Bool)
       → Filling (narrowedBy names counts base lengths followers l c runLength) j next → j < mostSenders
-      → a ≡ placeOf base c + l → r ≡ alike names counts a (placeOf base j + l) runLength
+      → p ≡ placeOf base c → q ≡ placeOf base j → r ≡ alike names counts (p + l) (q + l) runLength
       → x ≡ (member followers j && (leb (l + runLength) (getD lengths j 0) && r))
       → Filling (narrowedBy names counts base lengths followers l c runLength) (j + 1) (set next j x)
-  run-next base lengths followers l c a j next r x h k e q f =
+  run-next base lengths followers l c j p q next r x h k d e s f =
       set-next (narrowedBy names counts base lengths followers l c runLength) next x j h k
-      (f ∙ ap (λ (t : Bool). member followers j && (leb (l + runLength) (getD lengths j 0) && t)) (q ∙ ap (λ (p : ℕ). alike names counts p (placeOf base j + l) runLength) e))
+      (f ∙ ap (λ (t : Bool). member followers j && (leb (l + runLength) (getD lengths j 0) && t)) (s ∙ (λ i. alike names counts (d i + l) (e i + l) runLength)))
 
   module _ (base : ℕ) (lengths : List ℕ) (followers : List Bool) (l c : ℕ) where
     pub far-run : (far : List Bool) → l + runLength ≤ mostBlocks → SetOf (narrowedBy names counts base lengths followers l c runLength) mostSenders far
@@ -138,11 +145,10 @@ module _ (names counts : List ℕ) where
 
   -- ---- the loop
 
-  pub narrow-next : (base : ℕ) (lengths : List ℕ) (followers : List Bool) (l c name count j : ℕ) (next : List Bool) (x : Bool)
-      → Filling (narrowed names counts base lengths followers l (nextBlock names counts base l c)) j next → j < mostSenders
-      → name ≡ getD names (placeOf base c + l) 0 → count ≡ getD counts (placeOf base c + l) 0
-      → x ≡ (member followers j && (ltb l (getD lengths j 0) && (eqb name (getD names (placeOf base j + l) 0) && eqb count (getD counts (placeOf base j + l) 0))))
+  pub narrow-next : (base : ℕ) (lengths : List ℕ) (followers : List Bool) (l c j p q : ℕ) (next : List Bool) (x : Bool)
+      → Filling (narrowed names counts base lengths followers l (nextBlock names counts base l c)) j next → j < mostSenders → p ≡ placeOf base c → q ≡ placeOf base j
+      → x ≡ (member followers j && (ltb l (getD lengths j 0) && (eqb (getD names (p + l) 0) (getD names (q + l) 0) && eqb (getD counts (p + l) 0) (getD counts (q + l) 0))))
       → Filling (narrowed names counts base lengths followers l (nextBlock names counts base l c)) (j + 1) (set next j x)
-  narrow-next base lengths followers l c name count j next x h k n m e =
+  narrow-next base lengths followers l c j p q next x h k d e f =
       set-next (narrowed names counts base lengths followers l (nextBlock names counts base l c)) next x j h k
-      (e ∙ (λ i. member followers j && (ltb l (getD lengths j 0) && (eqb (n i) (getD names (placeOf base j + l) 0) && eqb (m i) (getD counts (placeOf base j + l) 0)))))
+      (f ∙ ap (λ (t : Bool). member followers j && (ltb l (getD lengths j 0) && t)) (next-same base l c j p q d e))

@@ -20,6 +20,12 @@ use Rattle.agreement.specs.declared.Proposals.{Proposals}
 use Rattle.agreement.specs.declared.Answer.the-variants.{First, Second, Known}
 use Rattle.agreement.proofs.FilingLaws.{fit-not-unfit}
 
+-- the code's test of what is known, from what it found of the log
+pub known-is : (g : Proposals) (i priority : ℕ) (r t : Bool) → r ≡ t
+    → (member (g .aside) i || (member (g .filed) i && (r && eqb priority (getD (g .priorities) i 0))))
+    ≡ (member (g .aside) i || (member (g .filed) i && (t && eqb priority (getD (g .priorities) i 0))))
+known-is g i priority r t e = rw e
+
 -- two cases of three are known
 known-cases : {A : Type 0} (a b x : Bool) (u v w : A) → (a || (b && x)) ≡ true → pick a u (pick b (pick x u v) w) ≡ u
 known-cases true b x u v w e = refl

@@ -41,16 +41,19 @@ module _ (names counts : List ℕ) (base : ℕ) (g : Agreement) (among : List Bo
 
   -- ---- the code's test of one sender, from what it found
 
-  pub backs-is : (a k j : ℕ) (r : Bool) → r ≡ prefixAt names counts a k (placeOf base j) (getD (g .lengths) j 0)
+  pub backs-is : (a k j p : ℕ) (r : Bool) → p ≡ placeOf base j → r ≡ prefixAt names counts a k p (getD (g .lengths) j 0)
       → ((getD (g .voters) j false && getD among j false) && r) ≡ backs names counts base g among a k j
   unfolding backs
-  backs-is a k j r e = rw e
+  backs-is a k j p r q e = rw (e, q)
 
   -- ---- what it counts
 
   pub tally-nowhere : (i k : ℕ) → (leb mostSenders i || ltb mostBlocks k) ≡ true → 0 ≡ supportersAt names counts base g among i k
   unfolding supportersAt
   tally-nowhere i k e = rw e
+
+  pub tally-placed : (i k : ℕ) → (leb mostSenders i || ltb mostBlocks k) ≡ false → i < mostSenders
+  tally-placed i k e = leb-false mostSenders i (or-false (leb mostSenders i) (ltb mostBlocks k) e .0)
 
   module _ (i k : ℕ) (placed : (leb mostSenders i || ltb mostBlocks k) ≡ false) (v : Bool) (x : ℕ) (e : v ≡ lacksRoom names counts base)
       (f : x ≡ count mostSenders (λ (j : ℕ). ltb mostBlocks (getD (g .lengths) j 0))) where
@@ -70,10 +73,11 @@ module _ (names counts : List ℕ) (base : ℕ) (g : Agreement) (among : List Bo
         (within-room names counts base i k (ok .inNames) (ok .inCounts) (leb-false mostSenders i (p .0)) (ltb-false mostBlocks k (p .1)))
         (within-room names counts base j (getD (g .lengths) j 0) (ok .inNames) (ok .inCounts) h (ok .short j h)))
 
-    pub tally-counted : (n : ℕ) → (v || ltb 0 x) ≡ false → n ≡ count mostSenders (backs names counts base g among (placeOf base i) k)
+    pub tally-counted : (p n : ℕ) → (v || ltb 0 x) ≡ false → p ≡ placeOf base i → n ≡ count mostSenders (backs names counts base g among p k)
         → n ≡ supportersAt names counts base g among i k
     unfolding supportersAt supportersOf
-    tally-counted n t c =
+    tally-counted p n t q d =
+        let c = d ∙ ap (λ (a : ℕ). count mostSenders (backs names counts base g among a k)) q in
         let ok = find-asks names counts base g among v x e f t in
         rw (placed, barred names counts base g among v x e f ∙ t)
         (c ∙ weigh-cong mostSenders ones (backs names counts base g among (placeOf base i) k) (supports R L) (supports-same ok))

@@ -87,7 +87,7 @@ pub fn file(
 ) -> Filed
     ensures { λ r. ⌜ Files (fileOf g (now (names .entry)) (now (counts .entry)) base (now (bytes .entry)) sender) r (now (names .exit)) (now (counts .exit)) ⌝ }
 {
-    if unfit(names, counts, base, bytes, sender) {
+    if unfit(names.len(), counts.len(), base, bytes, sender) {
         return Filed {
             answer: Answer::Known,
             agreement: g,

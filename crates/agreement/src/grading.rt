@@ -17,6 +17,7 @@ use super::Agreement;
 use super::Grade;
 use super::MOST_SENDERS;
 use super::room::lacks_room;
+use super::room::place_of;
 use super::tally::count_in;
 use super::tally::count_over;
 use super::tally::senders;
@@ -51,13 +52,13 @@ fn narrow(
     requires { ⌜ (Next (now names) (now counts) base l) × (c < mostSenders) ⌝ }
     ensures { λ r. ⌜ SetOf (narrowed (now (names .entry)) (now (counts .entry)) base lengths followers l (nextBlock (now (names .entry)) (now (counts .entry)) base l c)) mostSenders r ⌝ }
 {
-    let a = base as usize + MOST_BLOCKS * c + l;
+    let a = place_of(base, c) + l;
     let name = names[a];
     let count = counts[a];
     let mut next: [bool; 32] = [false; 32];
     let mut j = 0;
     while j < MOST_SENDERS {
-        let b = base as usize + MOST_BLOCKS * j + l;
+        let b = place_of(base, j) + l;
         next[j] = followers[j]
             & ((l < lengths[j] as usize) & ((name == names[b]) & (count == counts[b])));
         j += 1;
@@ -92,11 +93,11 @@ fn narrow_run(
     requires { ⌜ (Next (now names) (now counts) base l) × ((l + runLength ≤ mostBlocks) × (c < mostSenders)) ⌝ }
     ensures { λ r. ⌜ SetOf (narrowedBy (now (names .entry)) (now (counts .entry)) base lengths followers l c runLength) mostSenders r ⌝ }
 {
-    let a = base as usize + MOST_BLOCKS * c + l;
+    let a = place_of(base, c) + l;
     let mut next: [bool; 32] = [false; 32];
     let mut j = 0;
     while j < MOST_SENDERS {
-        let b = base as usize + MOST_BLOCKS * j + l;
+        let b = place_of(base, j) + l;
         next[j] = followers[j] & ((l + RUN <= lengths[j] as usize) & same_run(names, counts, a, b));
         j += 1;
     }
@@ -127,8 +128,8 @@ fn same_next(names: &[u64], counts: &[u16], base: u32, l: usize, i: usize, j: us
     requires { ⌜ (Next (now names) (now counts) base l) × ((i < mostSenders) × (j < mostSenders)) ⌝ }
     ensures { λ r. ⌜ r ≡ sameBlock (nextBlock (now (names .entry)) (now (counts .entry)) base l i) (nextBlock (now (names .entry)) (now (counts .entry)) base l j) ⌝ }
 {
-    let a = base as usize + MOST_BLOCKS * i + l;
-    let b = base as usize + MOST_BLOCKS * j + l;
+    let a = place_of(base, i) + l;
+    let b = place_of(base, j) + l;
     (names[a] == names[b]) & (counts[a] == counts[b])
 }
 
@@ -229,7 +230,7 @@ fn grade_among(names: &[u64], counts: &[u16], g: Agreement, among: [bool; 32], b
     ensures { λ r. ⌜ Gives (gradeAmong (now (names .entry)) (now (counts .entry)) base g among) (now (names .entry)) (now (counts .entry)) base r ⌝ }
 {
     let lengths = g.lengths;
-    if lacks_room(names, counts, base) | (0 < count_over(lengths, MOST_BLOCKS)) {
+    if lacks_room(names.len(), counts.len(), base) | (0 < count_over(lengths, MOST_BLOCKS)) {
         return Grade::Nothing;
     }
     find(names, counts, g, among, base)

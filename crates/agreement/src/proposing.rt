@@ -20,9 +20,9 @@ use super::MOST_SENDERS;
 use super::Proposals;
 use super::room::is_filed;
 use super::room::lacks_room;
+use super::room::place_of;
 use super::room::store_log;
 use super::room::unfit;
-use message::MOST_BLOCKS;
 
 pub fn empty(view: u32) -> Proposals
     ensures { λ r. ⌜ r ≡ emptyProposals view ⌝ }
@@ -128,7 +128,7 @@ pub fn file(
 ) -> FiledProposal
     ensures { λ r. ⌜ FilesProposal (fileProposalOf g (now (names .entry)) (now (counts .entry)) base (now (bytes .entry)) sender priority) r (now (names .exit)) (now (counts .exit)) ⌝ }
 {
-    if unfit(names, counts, base, bytes, sender) {
+    if unfit(names.len(), counts.len(), base, bytes, sender) {
         return FiledProposal {
             answer: Answer::Known,
             proposals: g,
@@ -153,7 +153,7 @@ fn may_choose(
     let filed = g.filed;
     let aside = g.aside;
     let lengths = g.lengths;
-    let at = base as usize + MOST_BLOCKS * i;
+    let at = place_of(base, i);
     let has_lock = message::store::is_prefix(names, counts, a, k, at, lengths[i] as usize);
     filed[i] & (!aside[i] & has_lock)
 }
@@ -197,7 +197,7 @@ fn best_to(
 pub fn choose(g: Proposals, names: &[u64], counts: &[u16], base: u32, a: usize, k: usize) -> Choice
     ensures { λ r. ⌜ Chooses (choiceOf (now (names .entry)) (now (counts .entry)) base g a k) r ⌝ }
 {
-    if lacks_room(names, counts, base) {
+    if lacks_room(names.len(), counts.len(), base) {
         return Choice::Lock;
     }
     let mut best = Choice::Lock;

@@ -1,28 +1,39 @@
 // What filing, grades and the vote share: room in the lists; whether anything can be filed, is filed already, and filing it.
 // Logs stand from `base` on, 64 places for each sender.
+ghost use mathlib.Core.Bool.{not, _||_};
 ghost use mathlib.Core.Path.{_≡_};
+ghost use Prim.Native.Nat.{_+_, _<_};
+ghost use lib.Dec.{leb, ltb};
 ghost use Rattle.message.specs.Logs.{sameLog, namesOf, countsOf};
 ghost use Rattle.message.specs.Message.{logIn};
 ghost use Rattle.message.specs.Numbers.{put};
-ghost use Rattle.agreement.specs.Limits.{placeOf};
-ghost use Rattle.agreement.specs.Record.{filedLog, lacksRoom};
-ghost use Rattle.agreement.specs.Filing.{unfit};
+ghost use Rattle.message.specs.Store.{holdsLog};
+ghost use Rattle.agreement.specs.Limits.{mostSenders, span, placeOf};
+ghost use Rattle.agreement.specs.Record.{filedLog};
 ghost use Rattle.agreement.specs.Filing.{Fit};
 use super::MOST_SENDERS;
 use super::SPAN;
 use message::MOST_BLOCKS;
 
-// The lists have no room for a log of each sender.
-pub(crate) fn lacks_room(names: &[u64], counts: &[u16], base: u32) -> bool
-    ensures { λ r. ⌜ r ≡ lacksRoom (now (names .entry)) (now (counts .entry)) base ⌝ }
+// Where sender i's log stands.
+pub(crate) fn place_of(base: u32, i: usize) -> usize
+    requires { ⌜ i < mostSenders ⌝ }
+    ensures { λ r. ⌜ r ≡ placeOf base i ⌝ }
 {
-    let end = base as usize + SPAN;
-    (names.len() < end) | (counts.len() < end)
+    base as usize + MOST_BLOCKS * i
 }
 
-// Nothing can be filed: no place for the sender, no room, or no log in the bytes.
-pub(crate) fn unfit(names: &[u64], counts: &[u16], base: u32, bytes: &[u8], sender: u8) -> bool
-    ensures { λ r. ⌜ r ≡ unfit (now (names .entry)) (now (counts .entry)) base (now (bytes .entry)) sender ⌝ }
+// The lists, of which the lengths are given, have no room for a log of each sender.
+pub(crate) fn lacks_room(names: usize, counts: usize, base: u32) -> bool
+    ensures { λ r. ⌜ r ≡ (ltb names (base + span) || ltb counts (base + span)) ⌝ }
+{
+    let end = base as usize + SPAN;
+    (names < end) | (counts < end)
+}
+
+// Nothing can be filed: no place for the sender, no room in the lists of these lengths, or no log in the bytes.
+pub(crate) fn unfit(names: usize, counts: usize, base: u32, bytes: &[u8], sender: u8) -> bool
+    ensures { λ r. ⌜ r ≡ (leb mostSenders sender || ((ltb names (base + span) || ltb counts (base + span)) || not (holdsLog (now (bytes .entry))))) ⌝ }
 {
     (MOST_SENDERS <= sender as usize)
         | (lacks_room(names, counts, base) | !message::store::holds_log(bytes))
@@ -41,7 +52,7 @@ pub(crate) fn is_filed(
     ensures { λ r. ⌜ r ≡ sameLog (logIn (now (bytes .entry))) (filedLog (now (names .entry)) (now (counts .entry)) base lengths sender) ⌝ }
 {
     let i = sender as usize;
-    let at = base as usize + MOST_BLOCKS * i;
+    let at = place_of(base, i);
     message::store::matches(bytes, names, counts, at, lengths[i] as usize)
 }
 
@@ -51,6 +62,6 @@ pub(crate) fn store_log(names: &mut [u64], counts: &mut [u16], base: u32, bytes:
     ensures { λ _. ⌜ (now (names .exit) ≡ put (now (names .entry)) (placeOf base sender) (namesOf (logIn (now (bytes .entry)))))
         × (now (counts .exit) ≡ put (now (counts .entry)) (placeOf base sender) (countsOf (logIn (now (bytes .entry))))) ⌝ }
 {
-    let at = base as usize + MOST_BLOCKS * (sender as usize);
+    let at = place_of(base, sender as usize);
     message::store::file(names, counts, at, bytes);
 }

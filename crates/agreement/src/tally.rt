@@ -11,6 +11,7 @@ ghost use Rattle.agreement.specs.Steps.{backs};
 use super::Agreement;
 use super::MOST_SENDERS;
 use super::room::lacks_room;
+use super::room::place_of;
 use message::MOST_BLOCKS;
 
 // A test as a number, to be added up.
@@ -77,7 +78,7 @@ fn is_behind(
 {
     let voters = g.voters;
     let lengths = g.lengths;
-    let at = base as usize + MOST_BLOCKS * j;
+    let at = place_of(base, j);
     let has_log = message::store::is_prefix(names, counts, a, k, at, lengths[j] as usize);
     (voters[j] & among[j]) & has_log
 }
@@ -120,9 +121,9 @@ pub fn supporters(
         return 0;
     }
     let lengths = g.lengths;
-    if lacks_room(names, counts, base) | (0 < count_over(lengths, MOST_BLOCKS)) {
+    if lacks_room(names.len(), counts.len(), base) | (0 < count_over(lengths, MOST_BLOCKS)) {
         return 0;
     }
-    let a = base as usize + MOST_BLOCKS * (i as usize);
+    let a = place_of(base, i as usize);
     count_behind(g, names, counts, base, among, a, k as usize)
 }

@@ -1,4 +1,4 @@
-use Rattle.agreement.proofs.ClimbLaws.{follow-all, follow-same, follow-far, far-few, follow-voted, top-voted, top-full}
+use Rattle.agreement.proofs.ClimbLaws.{climb-next, follow-all, follow-same, follow-far, far-few, follow-voted, top-voted, top-full}
 use Prim.Native.Nat.{_≤_, _<_, _-_}
 use Rattle.message.specs.Limits.{mostBlocks}
 use Rattle.agreement.specs.Limits.{mostSenders}
@@ -14,10 +14,10 @@ abbrev μ-loop : tie.MeasureT-loop
 μ-loop names counts lengths base all followers₀ who₀ l₀ followers who l = mostBlocks - l
 
 loop-holds : tie.Need-loop-holds Inv-loop μ-loop
-loop-holds c = ((search needs, search needs), (search needs, search follow-all))
+loop-holds c = ((search needs, search needs), (c .before .before .pre, follow-all _ _ _ _ _ _ (c .before .before .pre)))
 
 narrow-far-requires : tie.Need-narrow-far-requires Inv-loop μ-loop
-narrow-far-requires c κs = search needs
+narrow-far-requires c κs = (climb-next (c .before .loop .inv .1 .0) (c .loop-test .taken), c .before .loop .inv .0 .1)
 
 count-in-requires : tie.Need-count-in-requires Inv-loop μ-loop
 count-in-requires c κs = search needs
@@ -32,10 +32,10 @@ loop-less : tie.Need-loop-less Inv-loop μ-loop
 loop-less c = search needs
 
 loop-again : tie.Need-loop-again Inv-loop μ-loop
-loop-again c = ((search far-few, search needs), (search needs, search follow-far))
+loop-again c = ((far-few _ _ _ _ _ _ _ _ _ (c .before .before .before .before .loop .inv .1 .1) _ _ (c .before .before .narrow-far .ensures) (c .before .count-in .ensures .0) (c .if1 .taken), c .before .before .before .before .loop .inv .0 .1), (c .before .before .before .before .loop .inv .1 .0, follow-far _ _ _ _ _ _ _ _ _ (c .before .before .before .before .loop .inv .1 .1) _ _ (c .before .before .narrow-far .ensures) (c .before .count-in .ensures .0) (c .if1 .taken)))
 
 narrow-requires : tie.Need-narrow-requires Inv-loop μ-loop
-narrow-requires c κs = search needs
+narrow-requires c κs = (climb-next (c .before .before .before .before .loop .inv .1 .0) (c .before .before .before .loop-test .taken), c .before .before .before .before .loop .inv .0 .1)
 
 count-in-requires-2 : tie.Need-count-in-requires-2 Inv-loop μ-loop
 count-in-requires-2 c κs = search needs
@@ -50,13 +50,13 @@ loop-less-2 : tie.Need-loop-less-2 Inv-loop μ-loop
 loop-less-2 c = search needs
 
 loop-again-2 : tie.Need-loop-again-2 Inv-loop μ-loop
-loop-again-2 c = ((search needs, search needs), (search needs, follow-same _ _ _ _ _ _ _ _ _ (c .before .before .before .before .before .before .before .loop .inv .1 .1) _ _ (c .before .count-in2 .ensures .0) (c .before .before .narrow .ensures) (c .if2 .taken)))
+loop-again-2 c = ((search needs, c .before .before .before .before .before .before .before .loop .inv .0 .1), (c .before .before .before .before .before .before .before .loop .inv .1 .0, follow-same _ _ _ _ _ _ _ _ _ (c .before .before .before .before .before .before .before .loop .inv .1 .1) _ _ (c .before .count-in2 .ensures .0) (c .before .before .narrow .ensures) (c .if2 .taken)))
 
 vote-requires : tie.Need-vote-requires Inv-loop μ-loop
-vote-requires c κs = search needs
+vote-requires c κs = (climb-next (c .before .before .before .before .before .before .before .loop .inv .1 .0) (c .before .before .before .before .before .before .loop-test .taken), c .before .before .before .before .before .before .before .loop .inv .0 .1)
 
 narrow-requires-2 : tie.Need-narrow-requires-2 Inv-loop μ-loop
-narrow-requires-2 c κs = search needs
+narrow-requires-2 c κs = (climb-next (c .before .before .before .before .before .before .before .before .loop .inv .1 .0) (c .before .before .before .before .before .before .before .loop-test .taken), c .vote .ensures .place)
 
 count-in-requires-3 : tie.Need-count-in-requires-3 Inv-loop μ-loop
 count-in-requires-3 c κs = search needs
@@ -71,7 +71,7 @@ loop-less-3 : tie.Need-loop-less-3 Inv-loop μ-loop
 loop-less-3 c = search needs
 
 loop-again-3 : tie.Need-loop-again-3 Inv-loop μ-loop
-loop-again-3 c = ((search needs, search needs), (search needs, follow-voted _ _ _ _ _ _ _ _ _ (c .before .before .before .before .before .before .before .before .before .before .before .loop .inv .1 .1) _ _ (c .before .count-in3 .ensures .0) _ (c .before .before .before .vote .ensures) (c .before .before .narrow2 .ensures) (c .if3 .taken)))
+loop-again-3 c = ((search needs, c .before .before .before .vote .ensures .place), (c .before .before .before .before .before .before .before .before .before .before .before .loop .inv .1 .0, follow-voted _ _ _ _ _ _ _ _ _ (c .before .before .before .before .before .before .before .before .before .before .before .loop .inv .1 .1) _ _ (c .before .count-in3 .ensures .0) _ (c .before .before .before .vote .ensures) (c .before .before .narrow2 .ensures) (c .if3 .taken)))
 
 cast-t23 : tie.Need-cast-t23 Inv-loop μ-loop
 cast-t23 c = search needs
@@ -80,7 +80,7 @@ cast-t24 : tie.Need-cast-t24 Inv-loop μ-loop
 cast-t24 c = search needs
 
 returns : tie.Need-returns Inv-loop μ-loop
-returns c = top-voted _ _ _ _ _ _ _ _ _ (c .before .before .before .before .before .before .before .before .before .before .before .loop .inv .1 .1) (c .before .before .before .before .before .before .before .before .before .before .before .loop .inv .1 .0) _ _ _ (c .before .before .before .vote .ensures) (c .before .before .narrow2 .ensures) (c .before .count-in3 .ensures .0) (c .if3 .left) (search needs) (search needs)
+returns c = top-voted _ _ _ _ _ _ _ _ _ (c .before .before .before .before .before .before .before .before .before .before .before .loop .inv .1 .1) (c .before .before .before .before .before .before .before .before .before .before .before .loop .inv .1 .0) _ _ _ (c .before .before .before .vote .ensures) (c .before .before .narrow2 .ensures) (c .before .count-in3 .ensures .0) (c .if3 .left) (c .before .before .before .before .before .before .before .before .before .before .before .loop .inv .0 .0) (c .before .before .before .before .before .before .before .before .before .before .before .loop .inv .0 .1)
 
 cast-t25 : tie.Need-cast-t25 Inv-loop μ-loop
 cast-t25 c = search needs
@@ -89,7 +89,7 @@ cast-t26 : tie.Need-cast-t26 Inv-loop μ-loop
 cast-t26 c = search needs
 
 returns-2 : tie.Need-returns-2 Inv-loop μ-loop
-returns-2 c = search top-full
+returns-2 c = top-full _ _ _ _ _ _ _ _ _ (c .before .loop .inv .1 .1) (c .before .loop .inv .1 .0) (c .loop-test .left) (c .before .loop .inv .0 .0) (c .before .loop .inv .0 .1)
 
 pub climb-spec : {M : Type 1} → statement M
 climb-spec =

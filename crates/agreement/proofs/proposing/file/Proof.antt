@@ -7,23 +7,17 @@ use Rattle.agreement.proofs.proposing.file.Tie as tie
 unfit-requires : tie.Need-unfit-requires
 unfit-requires c κs = search needs
 
-same-length : tie.Need-same-length
-same-length c = search needs
-
-same-length-2 : tie.Need-same-length-2
-same-length-2 c = search needs
-
 returns : tie.Need-returns
 returns c = search proposal-unfit
 
 file-fit-requires : tie.Need-file-fit-requires
 file-fit-requires c κs = fit-by _ _ _ _ _ _ (c .before .before .before .unfit .ensures) (c .before .before .if1 .left)
 
-same-length-3 : tie.Need-same-length-3
-same-length-3 c = search needs
+same-length : tie.Need-same-length
+same-length c = search needs
 
-same-length-4 : tie.Need-same-length-4
-same-length-4 c = search needs
+same-length-2 : tie.Need-same-length-2
+same-length-2 c = search needs
 
 returns-2 : tie.Need-returns-2
 returns-2 c = search needs
@@ -31,12 +25,4 @@ returns-2 c = search needs
 pub file-spec : {M : Type 1} → statement M
 file-spec =
     tie.close
-    (tie.spec
-    unfit-requires
-    same-length
-    same-length-2
-    returns
-    file-fit-requires
-    same-length-3
-    same-length-4
-    returns-2)
+    (tie.spec unfit-requires returns file-fit-requires same-length same-length-2 returns-2)

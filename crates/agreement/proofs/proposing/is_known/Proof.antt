@@ -1,3 +1,4 @@
+use Rattle.agreement.proofs.ProposalLaws.{known-is}
 use borrow.Author.Needs.{needs}
 use Rattle.agreement.proofs.proposing.is_known.Statement.{statement}
 use Rattle.agreement.proofs.proposing.is_known.Tie as tie
@@ -18,7 +19,7 @@ array-read-result-3 : tie.Need-array-read-result-3
 array-read-result-3 c = search needs
 
 returns : tie.Need-returns
-returns c = cc
+returns c = known-is (c .before .before .before .before .before .before .before .before .args .g) _ _ _ _ (c .is-filed .ensures)
 
 pub is-known-spec : {M : Type 1} → statement M
 is-known-spec =

@@ -3,11 +3,8 @@ use borrow.Author.Needs.{needs}
 use Rattle.agreement.proofs.proposing.may_choose.Statement.{statement}
 use Rattle.agreement.proofs.proposing.may_choose.Tie as tie
 
-mul-at : tie.Need-mul-at
-mul-at c = search needs
-
-add-at : tie.Need-add-at
-add-at c = search needs
+place-of-requires : tie.Need-place-of-requires
+place-of-requires c κs = search needs
 
 array-read-is-prefix : tie.Need-array-read-is-prefix
 array-read-is-prefix c = search needs
@@ -31,8 +28,7 @@ pub may-choose-spec : {M : Type 1} → statement M
 may-choose-spec =
     tie.close
     (tie.spec
-    mul-at
-    add-at
+    place-of-requires
     array-read-is-prefix
     cast-is-prefix
     is-prefix-requires

@@ -3,11 +3,8 @@ use borrow.Author.Needs.{needs}
 use Rattle.agreement.proofs.room.is_filed.Statement.{statement}
 use Rattle.agreement.proofs.room.is_filed.Tie as tie
 
-mul-at : tie.Need-mul-at
-mul-at c = search needs
-
-add-at : tie.Need-add-at
-add-at c = search needs
+place-of-requires : tie.Need-place-of-requires
+place-of-requires c κs = search needs
 
 array-read-matches : tie.Need-array-read-matches
 array-read-matches c = search needs
@@ -23,4 +20,4 @@ returns c = search is-filed
 
 pub is-filed-spec : {M : Type 1} → statement M
 is-filed-spec =
-    tie.close (tie.spec mul-at add-at array-read-matches cast-matches matches-requires returns)
+    tie.close (tie.spec place-of-requires array-read-matches cast-matches matches-requires returns)

@@ -1,4 +1,4 @@
-use Rattle.agreement.proofs.TallyLaws.{tally-nowhere, tally-barred, tally-counted}
+use Rattle.agreement.proofs.TallyLaws.{tally-nowhere, tally-barred, tally-placed, tally-counted}
 use borrow.Author.Needs.{needs}
 use Rattle.agreement.proofs.tally.supporters.Statement.{statement}
 use Rattle.agreement.proofs.tally.supporters.Tie as tie
@@ -15,11 +15,8 @@ count-over-requires c κs = search needs
 returns-2 : tie.Need-returns-2
 returns-2 c = (search tally-barred, search needs)
 
-mul-a : tie.Need-mul-a
-mul-a c = search needs
-
-add-a : tie.Need-add-a
-add-a c = search needs
+place-of-requires : tie.Need-place-of-requires
+place-of-requires c κs = search tally-placed
 
 count-behind-requires : tie.Need-count-behind-requires
 count-behind-requires c κs = search needs
@@ -35,7 +32,6 @@ supporters-spec =
     lacks-room-requires
     count-over-requires
     returns-2
-    mul-a
-    add-a
+    place-of-requires
     count-behind-requires
     returns-3)
