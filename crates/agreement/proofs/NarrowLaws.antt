@@ -5,7 +5,7 @@ use mathlib.Core.Bool.{Bool, true, false, _&&_, and-assoc, false≢true}
 use mathlib.Core.List.{List}
 use mathlib.Core.Path.{_≡_, refl, sym, ap, _∙_}
 use borrow.Author.Tests.{ltb-true, ltb-false, lt-ltb, le-ltb, leb-true, le-leb, lt-leb}
-use lib.Dec.{ltb, leb, eqb}
+use lib.Dec.{ltb, leb}
 use lib.ListN.{getD, set, replicate}
 use Rattle.message.specs.Limits.{mostBlocks}
 use Rattle.message.specs.Numbers.{part}
@@ -34,10 +34,9 @@ ltb-suc l y =
 
 module _ (names counts : List ℕ) where
   -- the blocks after l blocks at two places that the code found
-  pub next-same : (base l i j p q : ℕ) → p ≡ placeOf base i → q ≡ placeOf base j
-      → (eqb (getD names (p + l) 0) (getD names (q + l) 0) && eqb (getD counts (p + l) 0) (getD counts (q + l) 0))
-      ≡ sameBlock (nextBlock names counts base l i) (nextBlock names counts base l j)
-  next-same base l i j p q e f = rw (e, f)
+  pub next-same : (base l i j p q : ℕ) (r : Bool) → p ≡ placeOf base i → q ≡ placeOf base j → r ≡ sameBlock (blockAt names counts (p + l)) (blockAt names counts (q + l))
+      → r ≡ sameBlock (nextBlock names counts base l i) (nextBlock names counts base l j)
+  next-same base l i j p q r d e f = f ∙ (λ k. sameBlock (blockAt names counts (d k + l)) (blockAt names counts (e k + l)))
 
   -- the blocks at places a and b are the same
   abbrev same : ℕ → ℕ → Bool
@@ -75,10 +74,9 @@ module _ (names counts : List ℕ) where
   unfolding alike
   alike-none a b = refl
 
-  pub alike-next : (a b i : ℕ) (r x : Bool) → r ≡ alike names counts a b i → x ≡ (r && same (a + i) (b + i)) → x ≡ alike names counts a b (i + 1)
+  pub alike-next : (a b i : ℕ) (r x : Bool) → r ≡ alike names counts a b i → x ≡ same (a + i) (b + i) → (r && x) ≡ alike names counts a b (i + 1)
   unfolding alike
-  alike-next a b i r x e f =
-      let s : suc i ≡ i + 1 = omega arith in f ∙ ap (λ (t : Bool). t && same (a + i) (b + i)) e ∙ ap (alike names counts a b) s
+  alike-next a b i r x e f = let s : suc i ≡ i + 1 = omega arith in (λ k. e k && f k) ∙ ap (alike names counts a b) s
 
   pub alike-all : (a b i : ℕ) (r : Bool) → r ≡ alike names counts a b i → i ≤ runLength → runLength ≤ i → r ≡ alike names counts a b runLength
   alike-all a b i r e h g = let s : i ≡ runLength = omega arith in e ∙ ap (alike names counts a b) s
@@ -145,10 +143,10 @@ module _ (names counts : List ℕ) where
 
   -- ---- the loop
 
-  pub narrow-next : (base : ℕ) (lengths : List ℕ) (followers : List Bool) (l c j p q : ℕ) (next : List Bool) (x : Bool)
-      → Filling (narrowed names counts base lengths followers l (nextBlock names counts base l c)) j next → j < mostSenders → p ≡ placeOf base c → q ≡ placeOf base j
-      → x ≡ (member followers j && (ltb l (getD lengths j 0) && (eqb (getD names (p + l) 0) (getD names (q + l) 0) && eqb (getD counts (p + l) 0) (getD counts (q + l) 0))))
+  pub narrow-next : (base : ℕ) (lengths : List ℕ) (followers : List Bool) (l c j : ℕ) (next : List Bool) (r x : Bool)
+      → Filling (narrowed names counts base lengths followers l (nextBlock names counts base l c)) j next → j < mostSenders
+      → r ≡ sameBlock (nextBlock names counts base l c) (nextBlock names counts base l j) → x ≡ (member followers j && (ltb l (getD lengths j 0) && r))
       → Filling (narrowed names counts base lengths followers l (nextBlock names counts base l c)) (j + 1) (set next j x)
-  narrow-next base lengths followers l c j p q next x h k d e f =
+  narrow-next base lengths followers l c j next r x h k s f =
       set-next (narrowed names counts base lengths followers l (nextBlock names counts base l c)) next x j h k
-      (f ∙ ap (λ (t : Bool). member followers j && (ltb l (getD lengths j 0) && t)) (next-same base l c j p q d e))
+      (f ∙ ap (λ (t : Bool). member followers j && (ltb l (getD lengths j 0) && t)) s)

@@ -7,6 +7,7 @@ ghost use Prim.Native.Nat.{_+_, _≤_, _<_};
 ghost use lib.ListN.{length};
 ghost use Rattle.message.specs.Limits.{mostBlocks};
 ghost use Rattle.message.specs.Logs.{sameBlock};
+ghost use Rattle.message.specs.Store.{blockAt};
 ghost use Rattle.agreement.specs.Limits.{mostSenders};
 ghost use Rattle.agreement.specs.Sets.{ones, member};
 ghost use Rattle.agreement.specs.Reading.{longest};
@@ -39,6 +40,22 @@ fn in_both(voters: [bool; 32], among: [bool; 32]) -> [bool; 32]
     both
 }
 
+// The block at a is the block at b.
+fn same_block(names: &[u64], counts: &[u16], a: usize, b: usize) -> bool
+    requires { ⌜ ((a < length (now names)) × (b < length (now names))) × ((a < length (now counts)) × (b < length (now counts))) ⌝ }
+    ensures { λ r. ⌜ r ≡ sameBlock (blockAt (now (names .entry)) (now (counts .entry)) a) (blockAt (now (names .entry)) (now (counts .entry)) b) ⌝ }
+{
+    (names[a] == names[b]) & (counts[a] == counts[b])
+}
+
+// The blocks that stand after l blocks at two senders' places are the same.
+fn same_next(names: &[u64], counts: &[u16], base: u32, l: usize, i: usize, j: usize) -> bool
+    requires { ⌜ (Next (now names) (now counts) base l) × ((i < mostSenders) × (j < mostSenders)) ⌝ }
+    ensures { λ r. ⌜ r ≡ sameBlock (nextBlock (now (names .entry)) (now (counts .entry)) base l i) (nextBlock (now (names .entry)) (now (counts .entry)) base l j) ⌝ }
+{
+    same_block(names, counts, place_of(base, i) + l, place_of(base, j) + l)
+}
+
 // Of the followers, those whose log goes on after l blocks with the block that stands there at sender c's place.
 fn narrow(
     names: &[u64],
@@ -52,15 +69,11 @@ fn narrow(
     requires { ⌜ (Next (now names) (now counts) base l) × (c < mostSenders) ⌝ }
     ensures { λ r. ⌜ SetOf (narrowed (now (names .entry)) (now (counts .entry)) base lengths followers l (nextBlock (now (names .entry)) (now (counts .entry)) base l c)) mostSenders r ⌝ }
 {
-    let a = place_of(base, c) + l;
-    let name = names[a];
-    let count = counts[a];
     let mut next: [bool; 32] = [false; 32];
     let mut j = 0;
     while j < MOST_SENDERS {
-        let b = place_of(base, j) + l;
-        next[j] = followers[j]
-            & ((l < lengths[j] as usize) & ((name == names[b]) & (count == counts[b])));
+        let same = same_next(names, counts, base, l, c, j);
+        next[j] = followers[j] & ((l < lengths[j] as usize) & same);
         j += 1;
     }
     next
@@ -74,7 +87,7 @@ fn same_run(names: &[u64], counts: &[u16], a: usize, b: usize) -> bool
     let mut same = true;
     let mut i = 0;
     while i < RUN {
-        same = same & ((names[a + i] == names[b + i]) & (counts[a + i] == counts[b + i]));
+        same = same & same_block(names, counts, a + i, b + i);
         i += 1;
     }
     same
@@ -121,16 +134,6 @@ fn narrow_far(
         return narrow_run(names, counts, lengths, followers, base, l, c);
     }
     [false; 32]
-}
-
-// The blocks that stand after l blocks at two senders' places are the same.
-fn same_next(names: &[u64], counts: &[u16], base: u32, l: usize, i: usize, j: usize) -> bool
-    requires { ⌜ (Next (now names) (now counts) base l) × ((i < mostSenders) × (j < mostSenders)) ⌝ }
-    ensures { λ r. ⌜ r ≡ sameBlock (nextBlock (now (names .entry)) (now (counts .entry)) base l i) (nextBlock (now (names .entry)) (now (counts .entry)) base l j) ⌝ }
-{
-    let a = place_of(base, i) + l;
-    let b = place_of(base, j) + l;
-    (names[a] == names[b]) & (counts[a] == counts[b])
 }
 
 // A sender that has, after l blocks, the block that more than half of the followers have there, if there is one: a majority

@@ -9,37 +9,16 @@ use Rattle.agreement.proofs.grading.narrow.Statement.{statement}
 use Rattle.agreement.proofs.grading.narrow.Tie as tie
 
 abbrev Inv-loop : tie.InvT-loop
-Inv-loop names counts base l c lengths followers a name count next₀ j₀ next j = Filling (narrowed names counts base lengths followers l (nextBlock names counts base l c)) j next
+Inv-loop names counts base l c lengths followers next₀ j₀ next j = Filling (narrowed names counts base lengths followers l (nextBlock names counts base l c)) j next
 
 abbrev μ-loop : tie.MeasureT-loop
-μ-loop names counts base l c lengths followers a name count next₀ j₀ next j = mostSenders - j
-
-place-of-requires : tie.Need-place-of-requires Inv-loop μ-loop
-place-of-requires c κs = search needs
-
-add-a : tie.Need-add-a Inv-loop μ-loop
-add-a c = search needs
-
-mul-name : tie.Need-mul-name Inv-loop μ-loop
-mul-name c = search needs
-
-shared-slice-read-name : tie.Need-shared-slice-read-name Inv-loop μ-loop
-shared-slice-read-name c = search needs
-
-mul-count : tie.Need-mul-count Inv-loop μ-loop
-mul-count c = search needs
-
-shared-slice-read-count : tie.Need-shared-slice-read-count Inv-loop μ-loop
-shared-slice-read-count c = search needs
+μ-loop names counts base l c lengths followers next₀ j₀ next j = mostSenders - j
 
 loop-holds : tie.Need-loop-holds Inv-loop μ-loop
 loop-holds c = set-none _ _ refl
 
-place-of-requires-2 : tie.Need-place-of-requires-2 Inv-loop μ-loop
-place-of-requires-2 c κs = search needs
-
-add-b : tie.Need-add-b Inv-loop μ-loop
-add-b c = search needs
+same-next-requires : tie.Need-same-next-requires Inv-loop μ-loop
+same-next-requires c κs = search needs
 
 array-read-next : tie.Need-array-read-next Inv-loop μ-loop
 array-read-next c = search needs
@@ -49,18 +28,6 @@ array-read-next-2 c = search needs
 
 cast-next : tie.Need-cast-next Inv-loop μ-loop
 cast-next c = search needs
-
-mul-next : tie.Need-mul-next Inv-loop μ-loop
-mul-next c = search needs
-
-shared-slice-read-next : tie.Need-shared-slice-read-next Inv-loop μ-loop
-shared-slice-read-next c = search needs
-
-mul-next-2 : tie.Need-mul-next-2 Inv-loop μ-loop
-mul-next-2 c = search needs
-
-shared-slice-read-next-2 : tie.Need-shared-slice-read-next-2 Inv-loop μ-loop
-shared-slice-read-next-2 c = search needs
 
 array-write-next : tie.Need-array-write-next Inv-loop μ-loop
 array-write-next c = search needs
@@ -72,7 +39,7 @@ loop-less : tie.Need-loop-less Inv-loop μ-loop
 loop-less c = search needs
 
 loop-again : tie.Need-loop-again Inv-loop μ-loop
-loop-again c = narrow-next (c .before .before .before .before .before .before .before .before .before .before .args .names .now) (c .before .before .before .before .before .before .before .before .before .before .args .counts .now) (c .before .before .before .before .before .before .before .before .before .before .args .base) (c .before .before .before .before .before .before .before .before .before .before .args .t3) (c .before .before .before .before .before .before .before .before .before .before .args .t4) (c .before .before .before .before .before .before .before .before .before .before .args .l) (c .before .before .before .before .before .before .before .before .before .before .args .c) _ _ _ _ _ (c .before .before .before .before .loop .inv) (c .before .before .before .loop-test .taken) (c .before .before .before .before .before .before .before .place-of .ensures) (c .before .before .place-of2 .ensures) refl
+loop-again c = narrow-next (c .before .before .before .before .before .args .names .now) (c .before .before .before .before .before .args .counts .now) (c .before .before .before .before .before .args .base) (c .before .before .before .before .before .args .t3) (c .before .before .before .before .before .args .t4) (c .before .before .before .before .before .args .l) (c .before .before .before .before .before .args .c) _ _ _ _ (c .before .before .loop .inv) (c .before .loop-test .taken) (c .same-next .ensures) refl
 
 returns : tie.Need-returns Inv-loop μ-loop
 returns c = set-all _ _ _ (c .before .loop .inv) (c .loop-test .left)
@@ -83,22 +50,11 @@ narrow-spec =
     (tie.spec
     Inv-loop
     μ-loop
-    place-of-requires
-    add-a
-    mul-name
-    shared-slice-read-name
-    mul-count
-    shared-slice-read-count
     loop-holds
-    place-of-requires-2
-    add-b
+    same-next-requires
     array-read-next
     array-read-next-2
     cast-next
-    mul-next
-    shared-slice-read-next
-    mul-next-2
-    shared-slice-read-next-2
     array-write-next
     add-j
     loop-less

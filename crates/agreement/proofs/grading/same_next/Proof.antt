@@ -6,38 +6,17 @@ use Rattle.agreement.proofs.grading.same_next.Tie as tie
 place-of-requires : tie.Need-place-of-requires
 place-of-requires c κs = search needs
 
-add-a : tie.Need-add-a
-add-a c = search needs
+add-same-block : tie.Need-add-same-block
+add-same-block c = search needs
 
 place-of-requires-2 : tie.Need-place-of-requires-2
 place-of-requires-2 c κs = search needs
 
-add-b : tie.Need-add-b
-add-b c = search needs
+add-same-block-2 : tie.Need-add-same-block-2
+add-same-block-2 c = search needs
 
-mul-result : tie.Need-mul-result
-mul-result c = search needs
-
-shared-slice-read-result : tie.Need-shared-slice-read-result
-shared-slice-read-result c = search needs
-
-mul-result-2 : tie.Need-mul-result-2
-mul-result-2 c = search needs
-
-shared-slice-read-result-2 : tie.Need-shared-slice-read-result-2
-shared-slice-read-result-2 c = search needs
-
-mul-result-3 : tie.Need-mul-result-3
-mul-result-3 c = search needs
-
-shared-slice-read-result-3 : tie.Need-shared-slice-read-result-3
-shared-slice-read-result-3 c = search needs
-
-mul-result-4 : tie.Need-mul-result-4
-mul-result-4 c = search needs
-
-shared-slice-read-result-4 : tie.Need-shared-slice-read-result-4
-shared-slice-read-result-4 c = search needs
+same-block-requires : tie.Need-same-block-requires
+same-block-requires c κs = search needs
 
 returns : tie.Need-returns
 returns c = search next-same
@@ -47,15 +26,8 @@ same-next-spec =
     tie.close
     (tie.spec
     place-of-requires
-    add-a
+    add-same-block
     place-of-requires-2
-    add-b
-    mul-result
-    shared-slice-read-result
-    mul-result-2
-    shared-slice-read-result-2
-    mul-result-3
-    shared-slice-read-result-3
-    mul-result-4
-    shared-slice-read-result-4
+    add-same-block-2
+    same-block-requires
     returns)
