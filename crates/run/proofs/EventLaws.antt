@@ -176,7 +176,7 @@ lines-next z end l p s i a e b ns cs left more r ns′ cs′ g q m f k long =
 
 -- ---- what Open gave
 
-pub is-not : (t u : Bool) → not t ≡ not u → t ≡ u
+is-not : (t u : Bool) → not t ≡ not u → t ≡ u
 is-not true true e = refl
 is-not true false e = sym e
 is-not false true e = sym e
@@ -196,19 +196,6 @@ module _ (s : List ℕ) (l : Lent) (r : Started) (ns cs : List ℕ) (g : OpenGiv
 
 -- ---- the whole text
 
--- Open refuses, or not
-module _ (s : List ℕ) (l : Lent) (v : Bool) (e : v ≡ openRefuses s l) (at : ℕ) (before : List ℕ) (q : ℕ) (after : List ℕ) where
-  pub roll-refused : v ≡ true → Puts noRollText at before q after → Puts (openedText s l (openingOf s l)) at before q after
-  unfolding openedText
-  roll-refused t f = rw (is-not (isDone (openingOf s l .reply)) false (sym e ∙ t)) f
-
-  pub roll-opened : v ≡ false → (b : Bench) → b ≡ openingOf s l .bench → (p : ℕ) (m : List ℕ) → Puts (firstLine (ownOf s) (benchesOf s)) at before p m
-      → Puts (linesOf (stateOf b (l .names) (l .counts)) (callsOf s)) p m q after → Puts (openedText s l (openingOf s l)) at before q after
-  unfolding openedText
-  roll-opened t b o p m h k =
-      rw (is-not (isDone (openingOf s l .reply)) true (sym e ∙ t))
-      (puts-then (firstLine (ownOf s) (benchesOf s)) (linesOf (openedOn s l) (callsOf s)) at before p m q after h (rw o at k))
-
 -- into the lent buffer
 module _ (s before : List ℕ) where
   pub text-scant : length before < mostRoll → WritesText s before 0 before
@@ -226,10 +213,20 @@ module _ (s before : List ℕ) where
     unfolding textOf
     text-none e f = text-is (rw (← t, e) f) (omega (arith, f .place))
 
-    pub text-whole : v ≡ false → Puts (openedText s freshLists (openOf (benchesOf s) (ownOf s) freshLists)) 0 before q after → q ≤ mostRoll
-        → WritesText s before q after
-    unfolding textOf
-    text-whole e f k = text-is (rw (← t, e) f) k
+    -- Open refuses, or not
+    module _ (e : v ≡ false) (w : Bool) (u : w ≡ openRefuses s freshLists) where
+      pub text-shut : w ≡ true → Puts noRollText 0 before q after → WritesText s before q after
+      unfolding textOf openedText
+      text-shut g f = text-is (rw (← t, e, is-not (isDone (openingOf s freshLists .reply)) false (sym u ∙ g)) f) (omega (arith, f .place))
+
+      pub text-whole : w ≡ false → (b : Bench) → b ≡ openingOf s freshLists .bench → (p : ℕ) (m : List ℕ) → Puts (firstLine (ownOf s) (benchesOf s)) 0 before p m
+          → Puts (linesOf (stateOf b (freshLists .names) (freshLists .counts)) (callsOf s)) p m q after → q ≤ mostRoll → WritesText s before q after
+      unfolding textOf openedText
+      text-whole g b o p m h k l =
+          text-is
+          (rw (← t, e, is-not (isDone (openingOf s freshLists .reply)) true (sym u ∙ g))
+          (puts-then (firstLine (ownOf s) (benchesOf s)) (linesOf (openedOn s freshLists) (callsOf s)) 0 before p m q after h (rw o at k)))
+          l
 
 -- so an answer of 0 says that the buffer is too short, and nothing else
 opened-some : (s : List ℕ) (l : Lent) (o : Opening) → 0 < length (openedText s l o)

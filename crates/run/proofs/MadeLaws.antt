@@ -131,7 +131,7 @@ made-as-said x s k out e h =
 
 -- ---- the calls before it
 
-pub made-after : (s : List ℕ) (l : Lent) (k : ℕ) (out : List ℕ) (at : ℕ) → at ≡ bodyPlace s k → (o : Bench) → o ≡ openingOf s l .bench
+made-after : (s : List ℕ) (l : Lent) (k : ℕ) (out : List ℕ) (at : ℕ) → at ≡ bodyPlace s k → (o : Bench) → o ≡ openingOf s l .bench
     → (b : Bench) (ns cs : List ℕ) → Leaves (heldAfter (stateOf o (l .names) (l .counts)) (firstCalls s k)) b ns cs → (n : ℕ) (after : List ℕ)
     → GivesMade (madeBy (actOf (stateOf b ns cs) (offeredAt s at) (priorityAt s at) out .answer .reply)) out n after
     → GivesMade (madeBy (actAfter (openedOn s l) s k out .answer .reply)) out n after
@@ -178,6 +178,8 @@ module _ (s : List ℕ) (k : ℕ) (v : Bool) (t : v ≡ noneMade s k freshLists)
         let n = leb-false (eventsOf s) k (or-false (leb (eventsOf s) k) (not (eqb (kindAt s k) actKind)) act .0) in
         omega arith
 
-  pub made-whole : (out : List ℕ) (n : ℕ) (after : List ℕ) → v ≡ false
-      → GivesMade (madeBy (actAfter (openedOn s freshLists) s k out .answer .reply)) out n after → GivesMade (madeOf s k out) out n after
-  made-whole out n after e g = rw (made-is out, ← t, e) g
+  pub made-whole : (out : List ℕ) → v ≡ false → (at : ℕ) → at ≡ bodyPlace s k → (o : Bench) → o ≡ openingOf s freshLists .bench
+      → (b : Bench) (ns cs : List ℕ) → Leaves (heldAfter (stateOf o (freshLists .names) (freshLists .counts)) (firstCalls s k)) b ns cs
+      → (n : ℕ) (after : List ℕ) → GivesMade (madeBy (actOf (stateOf b ns cs) (offeredAt s at) (priorityAt s at) out .answer .reply)) out n after
+      → GivesMade (madeOf s k out) out n after
+  made-whole out e at p o h b ns cs f n after g = rw (made-is out, ← t, e) (made-after s freshLists k out at p o h b ns cs f n after g)

@@ -23,7 +23,7 @@ use Rattle.calls.specs.Steps.{Leaves}
 use Rattle.bench.specs.declared.Bench.{Bench}
 use Rattle.bench.specs.declared.Counted.{Counted}
 use Rattle.run.specs.Roll.{eventsOf, misshapen}
-use Rattle.run.specs.RollSteps.{Puts, Pageable, Few}
+use Rattle.run.specs.RollSteps.{Puts, Shaped, Few}
 use Rattle.run.specs.Held.{heldAfter, firstCalls, openingOf, openRefuses, heldAt}
 use Rattle.run.specs.Page.{flag, flagsFrom, setBytes, headBytes, setsBytes, slotBytes, gradeBytes, readBytes, pageBytes, pageLength, ReadsNow, GivesPage, scantPage, tooFew, noPage}
 use Rattle.run.proofs.TextLaws.{puts-then, puts-three}
@@ -139,7 +139,7 @@ page-length b c = simp (length-append, slot-length, grade-length)
 
 -- ---- the calls before it
 
-pub page-given : (s : List ℕ) (l : Lent) (k : ℕ) (o : Bench) → o ≡ openingOf s l .bench → (b : Bench) (ns cs : List ℕ)
+page-given : (s : List ℕ) (l : Lent) (k : ℕ) (o : Bench) → o ≡ openingOf s l .bench → (b : Bench) (ns cs : List ℕ)
     → Leaves (heldAfter (stateOf o (l .names) (l .counts)) (firstCalls s k)) b ns cs → (c : Counted) → ReadsNow (stateOf b ns cs) c
     → (before : List ℕ) (r : ℕ) (after : List ℕ) → Puts (pageBytes b c) 0 before r after → GivesPage false (heldAt s l k) l before r ns cs after
 page-given s l k o e b ns cs f c g before r after p =
@@ -189,17 +189,23 @@ module _ (s : List ℕ) (k : ℕ) (l : Lent) (before : List ℕ) where
           shown = λ g. let z : _≡_ {A = ℕ} 0 1 = cc in absurd (omega arith);
         }
 
-    pub pageable : v ≡ false → Pageable s k before
-    unfolding noPage
-    pageable e =
-        let parts = or-false (scantPage before) (misshapen s || (tooFew s k || openRefuses s l)) (sym t ∙ e) in
-        let more = or-false (misshapen s) (tooFew s k || openRefuses s l) (parts .1) in
-        record {
-          room = ltb-false (length before) pageLength (parts .0);
-          shaped = shaped s (misshapen s) refl (more .0);
-          few = ltb-false (eventsOf s) k (or-false (tooFew s k) (openRefuses s l) (more .1) .0);
-        }
+    module _ (e : v ≡ false) where
+      within : (scantPage before ≡ false) × ((misshapen s || (tooFew s k || openRefuses s l)) ≡ false)
+      unfolding noPage
+      within = or-false (scantPage before) (misshapen s || (tooFew s k || openRefuses s l)) (sym t ∙ e)
 
-    pub page-whole : v ≡ false → (n : ℕ) (ns cs after : List ℕ) → GivesPage false (heldAt s l k) l before n ns cs after
-        → GivesPage (noPage s k l before) (heldAt s l k) l before n ns cs after
-    page-whole e n ns cs after g = rw (← t, e) g
+      pub page-room : pageLength ≤ length before
+      page-room = ltb-false (length before) pageLength (within .0)
+
+      pub page-shaped : Shaped s
+      page-shaped = shaped s (misshapen s) refl (or-false (misshapen s) (tooFew s k || openRefuses s l) (within .1) .0)
+
+      pub page-calls : k ≤ eventsOf s
+      page-calls =
+          let rest = or-false (misshapen s) (tooFew s k || openRefuses s l) (within .1) .1 in
+          ltb-false (eventsOf s) k (or-false (tooFew s k) (openRefuses s l) rest .0)
+
+    pub page-whole : v ≡ false → (o : Bench) → o ≡ openingOf s l .bench → (b : Bench) (ns cs : List ℕ)
+        → Leaves (heldAfter (stateOf o (l .names) (l .counts)) (firstCalls s k)) b ns cs → (c : Counted) → ReadsNow (stateOf b ns cs) c
+        → (r : ℕ) (after : List ℕ) → Puts (pageBytes b c) 0 before r after → GivesPage (noPage s k l before) (heldAt s l k) l before r ns cs after
+    page-whole e o h b ns cs f c g r after p = rw (← t, e) (page-given s l k o h b ns cs f c g before r after p)

@@ -25,7 +25,6 @@ use Rattle.run.specs.Texts.{ascii, decimal}
 use Rattle.run.specs.Roll.{mostRoll, mostEvents, sizesLength, eventsOf, markPlace, lengthAt, bodiesPlace, misfits, misshapen, offeredAt, priorityAt}
 use Rattle.run.specs.RollText.{markText, lineOf, stepOf}
 use Rattle.run.specs.Held.{openRefuses}
-use Rattle.run.specs.Page.{pageLength}
 use Rattle.run.specs.MadeBytes.{noAct}
 
 -- the bytes that a line is given room for
@@ -114,12 +113,6 @@ pub record Shaped (s : List ℕ) : Type 0 where
   pub short : length s ≤ mostRoll
   pub few : eventsOf s ≤ mostEvents
   pub fit : misfits s 0 (bodiesPlace s) (eventsOf s) ≡ false
-
--- there is a page of the first k calls in this buffer
-pub record Pageable (s : List ℕ) (k : ℕ) (before : List ℕ) : Type 0 where
-  pub room : pageLength ≤ length before
-  pub shaped : Shaped s
-  pub few : k ≤ eventsOf s
 
 -- no message is made of event k
 abbrev pub noneMade : List ℕ → ℕ → Lent → Bool

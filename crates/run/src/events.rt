@@ -1,25 +1,20 @@
 // The events of a roll: each call is made, and its line written.
 ghost use Prim.Native.Nat.{_≤_};
 ghost use lib.ListN.{length};
-ghost use Rattle.bench.specs.Answers.{lentAs, stateOf};
+ghost use Rattle.bench.specs.Answers.{stateOf};
 ghost use Rattle.run.specs.Roll.{mostRoll, callsOf};
-ghost use Rattle.run.specs.RollText.{linesOf, openedText};
+ghost use Rattle.run.specs.RollText.{linesOf};
 ghost use Rattle.run.specs.RollSteps.{lineRoom, Puts, Shaped};
-ghost use Rattle.run.specs.Held.{openingOf};
 use super::MARK_LENGTH;
 use super::SIZES_LENGTH;
 use super::calling::call_event;
 use super::form::events_of;
 use super::form::length_at;
-use super::lines::put_first_line;
 use super::lines::put_line;
-use super::opening::is_shut;
-use super::opening::opened;
-use super::texts::put_word;
 use bench::Bench;
 
 // The events, one after the other; where the text ends.
-fn print_events(
+pub(crate) fn print_events(
     bench: Bench,
     names: &mut [u64],
     counts: &mut [u16],
@@ -45,23 +40,4 @@ fn print_events(
         i += 1;
     }
     p
-}
-
-// The bench is opened and its events are run, or the roll's n or own number is refused.
-pub(crate) fn print_roll(
-    roll: &[u8],
-    names: &mut [u64],
-    counts: &mut [u16],
-    text: &mut [u8],
-) -> usize
-    requires { ⌜ (mostRoll ≤ length (now text)) × Shaped (now roll) ⌝ }
-    ensures { λ r. ⌜ Puts (openedText (now (roll .entry)) (lentAs (now (names .entry)) (now (counts .entry))) (openingOf (now (roll .entry)) (lentAs (now (names .entry)) (now (counts .entry))))) 0 (now (text .entry)) r (now (text .exit)) ⌝ }
-    ensures { λ r. ⌜ r ≤ mostRoll ⌝ }
-{
-    if is_shut(roll, names, counts) {
-        return put_word(text, 0, b"roll ?\n");
-    }
-    let bench = opened(roll, names, counts);
-    let p = put_first_line(text, roll[1], roll[0]);
-    print_events(bench, names, counts, roll, text, p)
 }

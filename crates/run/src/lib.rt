@@ -23,13 +23,18 @@ use bench::LEAST_LENT;
 use bench::Made;
 use bench::Start;
 use bench::Taken;
-use events::print_roll;
+use events::print_events;
 use form::is_misshapen;
+use held::body_place;
+use held::run_events;
+use lines::put_first_line;
+use lines::put_no_roll;
+use made::act_in;
 use made::is_none_made;
-use made::make_after;
+use opening::is_shut;
+use opening::opened;
 use page::is_no_page;
-use page::page_after;
-use texts::put_word;
+use slots::put_page;
 
 // The numbers of specs/Roll.antt and specs/Page.antt.
 pub const MOST_ROLL: usize = 65536;
@@ -76,11 +81,16 @@ pub fn roll_text(roll: &[u8], text: &mut [u8]) -> usize
         return 0;
     }
     if is_misshapen(roll) {
-        return put_word(text, 0, b"roll ?\n");
+        return put_no_roll(text);
     }
     let mut names = [0; LEAST_LENT];
     let mut counts = [0; LEAST_LENT];
-    print_roll(roll, &mut names, &mut counts, text)
+    if is_shut(roll, &names, &counts) {
+        return put_no_roll(text);
+    }
+    let bench = opened(roll, &names, &counts);
+    let p = put_first_line(text, roll);
+    print_events(bench, &mut names, &mut counts, roll, text, p)
 }
 
 // The page of a roll, at the front of the lent buffer, and its length: what the bench holds after the first calls, made on the lent
@@ -98,7 +108,10 @@ pub fn roll_page(
     if is_no_page(roll, calls, names, counts, page) {
         return 0;
     }
-    page_after(roll, calls, names, counts, page)
+    let bench = opened(roll, names, counts);
+    let held = run_events(bench, names, counts, roll, calls);
+    let read = calls::reading(held, names, counts);
+    put_page(page, held, read)
 }
 
 // The message that event number `event` of a roll made, at the front of the lent buffer, and its length. The buffer is the Act's
@@ -113,5 +126,8 @@ pub fn roll_made(roll: &[u8], event: usize, out: &mut [u8]) -> usize
     if is_none_made(roll, event, &names, &counts) {
         return 0;
     }
-    make_after(roll, &mut names, &mut counts, event, out)
+    let at = body_place(roll, event);
+    let bench = opened(roll, &names, &counts);
+    let held = run_events(bench, &mut names, &mut counts, roll, event);
+    act_in(held, &mut names, &mut counts, roll, at, out)
 }

@@ -3,8 +3,9 @@ ghost use Prim.Native.Nat.{_+_, _≤_};
 ghost use mathlib.Core.List.{_++_};
 ghost use lib.ListN.{length};
 ghost use Rattle.run.specs.Texts.{ascii, decimal, mostDigits};
-ghost use Rattle.run.specs.RollText.{firstLine, markText};
-ghost use Rattle.run.specs.RollSteps.{lineRoom, startText, takenText, standText, actedText, answerText, Puts};
+ghost use Rattle.run.specs.Roll.{benchesOf, ownOf};
+ghost use Rattle.run.specs.RollText.{noRollText, firstLine, markText};
+ghost use Rattle.run.specs.RollSteps.{lineRoom, startText, takenText, standText, actedText, answerText, Puts, Shaped};
 use super::Answered;
 use super::texts::put_decimal;
 use super::texts::put_word;
@@ -13,23 +14,30 @@ use bench::Start;
 use bench::Taken;
 
 // A word, and a number after it.
-fn put_numbered(text: &mut [u8], at: usize, word: &[u8], x: u32) -> usize
+fn put_numbered(text: &mut [u8], at: usize, word: &[u8], x: u8) -> usize
     requires { ⌜ at + length (now word) + mostDigits ≤ length (now text) ⌝ }
     ensures { λ r. ⌜ Puts (now (word .entry) ++ decimal x) at (now (text .entry)) r (now (text .exit)) ⌝ }
     ensures { λ r. ⌜ r ≤ at + length (now (word .entry)) + mostDigits ⌝ }
 {
     let p = put_word(text, at, word);
-    put_decimal(text, p, x)
+    put_decimal(text, p, x as u32)
 }
 
-pub(crate) fn put_first_line(text: &mut [u8], own: u8, n: u8) -> usize
-    requires { ⌜ lineRoom ≤ length (now text) ⌝ }
-    ensures { λ r. ⌜ Puts (firstLine own n) 0 (now (text .entry)) r (now (text .exit)) ⌝ }
+pub(crate) fn put_first_line(text: &mut [u8], roll: &[u8]) -> usize
+    requires { ⌜ (lineRoom ≤ length (now text)) × Shaped (now roll) ⌝ }
+    ensures { λ r. ⌜ Puts (firstLine (ownOf (now (roll .entry))) (benchesOf (now (roll .entry)))) 0 (now (text .entry)) r (now (text .exit)) ⌝ }
     ensures { λ r. ⌜ r ≤ lineRoom ⌝ }
 {
-    let p = put_numbered(text, 0, b"bench ", own as u32);
-    let q = put_numbered(text, p, b" of ", n as u32);
+    let p = put_numbered(text, 0, b"bench ", roll[1]);
+    let q = put_numbered(text, p, b" of ", roll[0]);
     put_word(text, q, b"\n")
+}
+
+pub(crate) fn put_no_roll(text: &mut [u8]) -> usize
+    requires { ⌜ lineRoom ≤ length (now text) ⌝ }
+    ensures { λ r. ⌜ Puts noRollText 0 (now (text .entry)) r (now (text .exit)) ⌝ }
+{
+    put_word(text, 0, b"roll ?\n")
 }
 
 // A refusal: its number ends the line.
@@ -38,7 +46,7 @@ fn put_refused(text: &mut [u8], at: usize, word: &[u8], number: u8) -> usize
     ensures { λ r. ⌜ Puts (now (word .entry) ++ (decimal number ++ ascii "\n")) at (now (text .entry)) r (now (text .exit)) ⌝ }
     ensures { λ r. ⌜ r ≤ at + length (now (word .entry)) + 11 ⌝ }
 {
-    let p = put_numbered(text, at, word, number as u32);
+    let p = put_numbered(text, at, word, number);
     put_word(text, p, b"\n")
 }
 
@@ -58,8 +66,9 @@ fn put_begun(text: &mut [u8], at: usize, beat: u32, answer: Start) -> usize
     ensures { λ r. ⌜ Puts (ascii "begin " ++ (decimal beat ++ startText answer)) at (now (text .entry)) r (now (text .exit)) ⌝ }
     ensures { λ r. ⌜ r ≤ at + lineRoom ⌝ }
 {
-    let p = put_numbered(text, at, b"begin ", beat);
-    put_start(text, p, answer)
+    let p = put_word(text, at, b"begin ");
+    let q = put_decimal(text, p, beat);
+    put_start(text, q, answer)
 }
 
 fn put_taken(text: &mut [u8], at: usize, answer: Taken) -> usize
@@ -93,7 +102,7 @@ fn put_stand(text: &mut [u8], at: usize, decided: u8, parted: bool) -> usize
     ensures { λ r. ⌜ Puts (standText decided parted) at (now (text .entry)) r (now (text .exit)) ⌝ }
     ensures { λ r. ⌜ r ≤ at + 19 ⌝ }
 {
-    let p = put_numbered(text, at, b" ", decided as u32);
+    let p = put_numbered(text, at, b" ", decided);
     put_mark(text, p, parted)
 }
 
@@ -103,7 +112,7 @@ fn put_made(text: &mut [u8], at: usize, word: &[u8], k: u8, decided: u8, parted:
     ensures { λ r. ⌜ Puts (now (word .entry) ++ (decimal k ++ standText decided parted)) at (now (text .entry)) r (now (text .exit)) ⌝ }
     ensures { λ r. ⌜ r ≤ at + lineRoom ⌝ }
 {
-    let p = put_numbered(text, at, word, k as u32);
+    let p = put_numbered(text, at, word, k);
     put_stand(text, p, decided, parted)
 }
 

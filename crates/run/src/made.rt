@@ -1,22 +1,18 @@
 // The message that an Act of a roll made.
 ghost use mathlib.Core.Path.{_≡_};
-ghost use Prim.Native.Nat.{_≤_, _<_};
+ghost use Prim.Native.Nat.{_<_};
 ghost use Rattle.bench.specs.ByRecord.{actOf};
 ghost use Rattle.bench.specs.Answers.{lentAs, stateOf};
-ghost use Rattle.run.specs.Roll.{eventsOf, offeredAt, priorityAt};
+ghost use Rattle.run.specs.Roll.{offeredAt, priorityAt};
 ghost use Rattle.run.specs.RollSteps.{Shaped, lengthFor, noneMade};
-ghost use Rattle.run.specs.Held.{openedOn};
-ghost use Rattle.run.specs.MadeBytes.{noAct, madeBy, actAfter, GivesMade};
+ghost use Rattle.run.specs.MadeBytes.{noAct, madeBy, GivesMade};
 use super::ACT_KIND;
 use super::MARK_LENGTH;
 use super::SIZES_LENGTH;
 use super::calling::offer_in;
 use super::form::events_of;
 use super::form::is_misshapen;
-use super::held::body_place;
-use super::held::run_events;
 use super::opening::is_shut;
-use super::opening::opened;
 use bench::Bench;
 use bench::Made;
 use message::BLOCK_WIDTH;
@@ -45,7 +41,7 @@ fn message_length(answer: Made) -> usize
 }
 
 // The Act whose body starts at this place, and the length of what it made.
-fn act_in(
+pub(crate) fn act_in(
     bench: Bench,
     names: &mut [u64],
     counts: &mut [u16],
@@ -81,21 +77,4 @@ pub(crate) fn is_none_made(roll: &[u8], event: usize, names: &[u64], counts: &[u
         return true;
     }
     is_shut(roll, names, counts)
-}
-
-// The bench is opened, and the calls before this event, an Act, are made, and then it.
-pub(crate) fn make_after(
-    roll: &[u8],
-    names: &mut [u64],
-    counts: &mut [u16],
-    event: usize,
-    out: &mut [u8],
-) -> usize
-    requires { ⌜ Shaped (now roll) × (event ≤ eventsOf (now roll)) ⌝ }
-    ensures { λ r. ⌜ GivesMade (madeBy (actAfter (openedOn (now (roll .entry)) (lentAs (now (names .entry)) (now (counts .entry)))) (now (roll .entry)) event (now (out .entry)) .answer .reply)) (now (out .entry)) r (now (out .exit)) ⌝ }
-{
-    let at = body_place(roll, event);
-    let bench = opened(roll, names, counts);
-    let held = run_events(bench, names, counts, roll, event);
-    act_in(held, names, counts, roll, at, out)
 }

@@ -1,11 +1,14 @@
-use Rattle.run.proofs.MadeLaws.{made-shaped, made-event, made-none, made-whole}
+use Rattle.run.proofs.MadeLaws.{made-none, made-shaped, made-event, made-whole}
 use borrow.Author.Needs.{needs}
 use Rattle.run.proofs.roll_made.Statement.{statement}
 use Rattle.run.proofs.roll_made.Tie as tie
 use Rattle.run.proofs.roll_made.Reads as reads
 use Rattle.run.proofs.roll_made.Lts as lts
+use Rattle.run.proofs.held.body_place.Reads as body-place-reads
+use Rattle.run.proofs.held.run_events.Reads as run-events-reads
+use Rattle.run.proofs.made.act_in.Reads as act-in-reads
 use Rattle.run.proofs.made.is_none_made.Reads as is-none-made-reads
-use Rattle.run.proofs.made.make_after.Reads as make-after-reads
+use Rattle.run.proofs.opening.opened.Reads as opened-reads
 
 slice-aggregate-is-none-made : tie.Need-slice-aggregate-is-none-made
 slice-aggregate-is-none-made c = search needs
@@ -19,14 +22,35 @@ is-none-made-requires c κs = search needs
 returns : tie.Need-returns
 returns c = search made-none
 
-slice-aggregate-make-after : tie.Need-slice-aggregate-make-after
-slice-aggregate-make-after c = search needs
+body-place-requires : tie.Need-body-place-requires
+body-place-requires c κs = (search made-shaped, search made-event)
 
-slice-aggregate-make-after-2 : tie.Need-slice-aggregate-make-after-2
-slice-aggregate-make-after-2 c = search needs
+slice-aggregate-opened : tie.Need-slice-aggregate-opened
+slice-aggregate-opened c = search needs
 
-make-after-requires : tie.Need-make-after-requires
-make-after-requires c κs = (search made-shaped, search made-event)
+slice-aggregate-opened-2 : tie.Need-slice-aggregate-opened-2
+slice-aggregate-opened-2 c = search needs
+
+opened-requires : tie.Need-opened-requires
+opened-requires c κs = search made-shaped
+
+slice-aggregate-run-events : tie.Need-slice-aggregate-run-events
+slice-aggregate-run-events c = search needs
+
+slice-aggregate-run-events-2 : tie.Need-slice-aggregate-run-events-2
+slice-aggregate-run-events-2 c = search needs
+
+run-events-requires : tie.Need-run-events-requires
+run-events-requires c κs = (search made-shaped, search made-event)
+
+slice-aggregate-act-in : tie.Need-slice-aggregate-act-in
+slice-aggregate-act-in c = search needs
+
+slice-aggregate-act-in-2 : tie.Need-slice-aggregate-act-in-2
+slice-aggregate-act-in-2 c = search needs
+
+act-in-requires : tie.Need-act-in-requires
+act-in-requires c κs = search needs
 
 same-length : tie.Need-same-length
 same-length c = search needs
@@ -42,8 +66,15 @@ roll-made-spec =
     slice-aggregate-is-none-made-2
     is-none-made-requires
     returns
-    slice-aggregate-make-after
-    slice-aggregate-make-after-2
-    make-after-requires
+    body-place-requires
+    slice-aggregate-opened
+    slice-aggregate-opened-2
+    opened-requires
+    slice-aggregate-run-events
+    slice-aggregate-run-events-2
+    run-events-requires
+    slice-aggregate-act-in
+    slice-aggregate-act-in-2
+    act-in-requires
     same-length
     returns-2)

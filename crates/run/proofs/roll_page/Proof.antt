@@ -1,11 +1,14 @@
-use Rattle.run.proofs.PageLaws.{page-none, pageable, page-whole}
+use Rattle.run.proofs.PageLaws.{counts-few, page-none, page-room, page-shaped, page-calls, page-whole}
 use borrow.Author.Needs.{needs}
 use Rattle.run.proofs.roll_page.Statement.{statement}
 use Rattle.run.proofs.roll_page.Tie as tie
 use Rattle.run.proofs.roll_page.Reads as reads
 use Rattle.run.proofs.roll_page.Lts as lts
+use Rattle.calls.proofs.reading.Reads as reading-reads
+use Rattle.run.proofs.held.run_events.Reads as run-events-reads
+use Rattle.run.proofs.opening.opened.Reads as opened-reads
 use Rattle.run.proofs.page.is_no_page.Reads as is-no-page-reads
-use Rattle.run.proofs.page.page_after.Reads as page-after-reads
+use Rattle.run.proofs.slots.put_page.Reads as put-page-reads
 
 is-no-page-requires : tie.Need-is-no-page-requires
 is-no-page-requires c κs = search needs
@@ -22,10 +25,23 @@ same-length-3 c = search needs
 returns : tie.Need-returns
 returns c = search page-none
 
-page-after-requires : tie.Need-page-after-requires
-page-after-requires c κs =
-    let tested = c .before .before .before in
-    pageable _ _ _ _ _ (tested .before .is-no-page .ensures) (tested .if1 .left)
+opened-requires : tie.Need-opened-requires
+opened-requires c κs =
+    let tested = c .before .before in
+    page-shaped _ _ _ _ _ (tested .before .is-no-page .ensures) (tested .if1 .left)
+
+run-events-requires : tie.Need-run-events-requires
+run-events-requires c κs =
+    let tested = c .before .before .before .before .before in
+    (page-shaped _ _ _ _ _ (tested .before .is-no-page .ensures) (tested .if1 .left), page-calls _ _ _ _ _ (tested .before .is-no-page .ensures) (tested .if1 .left))
+
+reading-requires : tie.Need-reading-requires
+reading-requires c κs = search needs
+
+put-page-requires : tie.Need-put-page-requires
+put-page-requires c κs =
+    let tested = c .before .before .before .before .before .before .before .before .before .before .before .before .before .before in
+    (page-room _ _ _ _ _ (tested .before .is-no-page .ensures) (tested .if1 .left), search counts-few)
 
 same-length-4 : tie.Need-same-length-4
 same-length-4 c = search needs
@@ -48,7 +64,10 @@ roll-page-spec =
     same-length-2
     same-length-3
     returns
-    page-after-requires
+    opened-requires
+    run-events-requires
+    reading-requires
+    put-page-requires
     same-length-4
     same-length-5
     same-length-6

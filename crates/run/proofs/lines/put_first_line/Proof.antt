@@ -11,11 +11,17 @@ use Rattle.run.proofs.texts.put_word.Reads as put-word-reads
 slice-aggregate-put-numbered : tie.Need-slice-aggregate-put-numbered
 slice-aggregate-put-numbered c = search needs
 
+shared-slice-read-put-numbered : tie.Need-shared-slice-read-put-numbered
+shared-slice-read-put-numbered c = search needs
+
 put-numbered-requires : tie.Need-put-numbered-requires
 put-numbered-requires c κs = search needs
 
 slice-aggregate-put-numbered-2 : tie.Need-slice-aggregate-put-numbered-2
 slice-aggregate-put-numbered-2 c = search needs
+
+shared-slice-read-put-numbered-2 : tie.Need-shared-slice-read-put-numbered-2
+shared-slice-read-put-numbered-2 c = search needs
 
 put-numbered-requires-2 : tie.Need-put-numbered-requires-2
 put-numbered-requires-2 c κs = search needs
@@ -37,8 +43,10 @@ put-first-line-spec =
     tie.close
     (tie.spec
     slice-aggregate-put-numbered
+    shared-slice-read-put-numbered
     put-numbered-requires
     slice-aggregate-put-numbered-2
+    shared-slice-read-put-numbered-2
     put-numbered-requires-2
     slice-aggregate-put-word
     put-word-requires
