@@ -1,108 +1,25 @@
-// The messages that are handed in: in print and in bytes, of any form, refused ones too.
-use super::print::say;
-use super::print::say_number;
+// The messages that are handed in, of any form, refused ones too: a clause as "view 1 LOG [5,.. of 64] from 1 in 25 bytes" in bytes.
+// All blocks have the name of the first, and one entry each.
+use script::Clause;
 
-// What a message's head says, and the name that each of its blocks has; entry counts are all 1.
-pub(crate) struct Form {
-    pub(crate) blocks: u8,
-    pub(crate) sender: u8,
-    pub(crate) kind: u8,
-    pub(crate) view: u32,
-    pub(crate) name: u64,
+// The longest is a block longer than a message may be.
+pub(crate) const LONGEST: usize = 666;
+
+fn blocks_of(c: Clause) -> u8 {
+    if c.number(b'f') == 0 {
+        return c.digits(b'[');
+    }
+    c.byte(b'f')
 }
 
-// The LOG of one block.
-pub(crate) fn log(view: u32, sender: u8, name: u64) -> Form {
-    Form {
-        blocks: 1,
-        sender,
-        kind: 1,
-        view,
-        name,
+fn kind_of(c: Clause) -> u8 {
+    let capital = c.capital;
+    match capital {
+        b'G' => 1,
+        b'L' => 2,
+        _ => c.byte(b'd'),
     }
 }
-
-// The LOG of view 1 from bench 1 of so many blocks named 5.
-pub(crate) fn log_of(blocks: u8) -> Form {
-    Form {
-        blocks,
-        sender: 1,
-        kind: 1,
-        view: 1,
-        name: 5,
-    }
-}
-
-// The LOG of no blocks.
-pub(crate) fn empty_log(view: u32, sender: u8) -> Form {
-    Form {
-        blocks: 0,
-        sender,
-        kind: 1,
-        view,
-        name: 0,
-    }
-}
-
-// The PROPOSAL of one block, of priority 0.
-pub(crate) fn proposal(view: u32, sender: u8, name: u64) -> Form {
-    Form {
-        blocks: 1,
-        sender,
-        kind: 2,
-        view,
-        name,
-    }
-}
-
-// Its kind, sender, view and name are all refused.
-pub(crate) fn rubbish() -> Form {
-    Form {
-        blocks: 1,
-        sender: 255,
-        kind: 3,
-        view: 1000001,
-        name: 0,
-    }
-}
-
-// ---- in print
-
-fn say_kind(kind: u8) {
-    match kind {
-        1 => say(b" LOG "),
-        2 => say(b" PROPOSAL "),
-        _ => {
-            say(b" kind ");
-            say_number(kind as u64);
-            say(b" ");
-        }
-    }
-}
-
-// The blocks by name; of more than one, the first and how many there are.
-fn say_blocks(blocks: u8, name: u64) {
-    say(b"[");
-    if 0 < blocks {
-        say_number(name);
-    }
-    if 1 < blocks {
-        say(b",.. of ");
-        say_number(blocks as u64);
-    }
-    say(b"]");
-}
-
-pub(crate) fn say_form(f: Form) {
-    say(b"view ");
-    say_number(f.view as u64);
-    say_kind(f.kind);
-    say_blocks(f.blocks, f.name);
-    say(b" from ");
-    say_number(f.sender as u64);
-}
-
-// ---- in bytes
 
 // The writer of the crate message makes LOGs of up to 64 blocks.
 fn written_blocks(blocks: u8) -> usize {
@@ -113,24 +30,25 @@ fn written_blocks(blocks: u8) -> usize {
 }
 
 // A LOG is written, and then the bytes that say another block count or another kind.
-pub(crate) fn write(bytes: &mut [u8; 666], f: Form) {
-    let names = [f.name; 64];
+pub(crate) fn write(bytes: &mut [u8; LONGEST], c: Clause) {
+    let names = [c.number(b'['); 64];
     let counts = [1u16; 64];
-    let k = written_blocks(f.blocks);
-    message::writer::write_log(bytes, &names, &counts, 0, k, f.sender, f.view);
-    bytes[0] = f.blocks;
-    bytes[2] = f.kind;
+    let blocks = blocks_of(c);
+    let k = written_blocks(blocks);
+    message::writer::write_log(bytes, &names, &counts, 0, k, c.byte(b'm'), c.long(b'w'));
+    bytes[0] = blocks;
+    bytes[2] = kind_of(c);
 }
 
-// The number of bytes of a message of this form.
-pub(crate) fn size(f: Form) -> usize {
-    16 + 10 * (f.blocks as usize)
-}
-
-// The first `size` bytes.
-pub(crate) fn front(bytes: &[u8], size: usize) -> &[u8] {
-    if size <= bytes.len() {
-        return &bytes[0..size];
+// The message: as many bytes as the clause says, or as its blocks make where it says no number.
+pub(crate) fn front(bytes: &[u8; LONGEST], c: Clause) -> &[u8] {
+    let whole: &[u8] = bytes;
+    let mut size = c.place(b'n');
+    if size == 0 {
+        size = 16 + 10 * (blocks_of(c) as usize);
     }
-    bytes
+    if size <= whole.len() {
+        return &whole[0..size];
+    }
+    whole
 }
