@@ -1,31 +1,26 @@
 // Beats and views as numbers, within the bounds of a u32.
 
-// No beat and no view: the engine refuses to begin it, and messages of it.
-pub(crate) const NEVER: u32 = 4294967295;
+// No beat and no view: the engine refuses it.
+const NEVER: u32 = 4294967295;
 
-// By document 01; the chart asks whether it is the last.
-pub(crate) const LAST_VIEW: u32 = 1000000;
-
-// NEVER where the sum is too large.
-pub(crate) fn sum(a: u32, b: u32) -> u32 {
-    if b <= NEVER - a {
-        return a + b;
-    }
-    NEVER
-}
-
-// 0 where b is larger.
-pub(crate) fn difference(a: u32, b: u32) -> u32 {
-    if b <= a {
-        return a - b;
+// x + up - down, and 0 where that is no u32.
+pub(crate) fn moved(x: u32, up: u32, down: u32) -> u32 {
+    if up <= NEVER - x {
+        let y = x + up;
+        if down <= y {
+            return y - down;
+        }
     }
     0
 }
 
-// Where the columns of a view start.
-pub(crate) fn start_of(view: u32) -> u32 {
-    if view <= NEVER / 4 {
-        return 4 * view;
+// The last view that has a first beat.
+const LAST: u32 = 1073741823;
+
+// Column k of view v.
+pub(crate) fn beat_of(v: u32, k: u32) -> u32 {
+    if v <= LAST {
+        return moved(4 * v, k, 0);
     }
     NEVER
 }

@@ -1,89 +1,67 @@
-// The chart of a view and the next, and whether those of other views are the same, counted from each view's first beat.
-use super::beats::LAST_VIEW;
-use super::beats::sum;
-use super::lines::put_acts;
-use super::lines::put_titles;
-use super::naming::Naming;
-use super::rows::put_columns;
-use super::rows::put_rows;
-use super::text::Text;
+// Whether the charts of other views are that of the first, counted from each view's first beat.
+use super::cells::COLUMNS;
+use super::cells::ROWS;
+use super::cells::cell;
+use super::lines::Line;
+use super::lines::Mark;
+use super::lines::line_at;
+use super::words::say_word;
+use script::Clause;
+use script::say_number;
 
-// The last v of which every column of the chart is a beat.
-const LAST_WHOLE: u32 = LAST_VIEW - 2;
+// The view whose chart is written.
+pub(crate) const FIRST: u32 = 1;
 
-// The chart of view 1, the views asked, and those of them whose chart is unlike it.
-struct Comparison {
-    first: Text,
-    asked: Text,
-    unlike: Text,
+// The chart has the rows of two views, and behind them the lines of four acts.
+const CELLS: u32 = 2 * ROWS * COLUMNS;
+
+const PARTS: u32 = CELLS + 4;
+
+fn is_same_mark(a: Mark, b: Mark) -> bool {
+    (a.answer == b.answer) & (a.view == b.view)
 }
 
-pub(crate) fn chart(v: u32) -> Text {
-    let columns = put_columns(Text::empty());
-    let one = put_rows(columns, v, v);
-    let both = put_rows(one, v, sum(v, 1));
-    put_acts(put_titles(both), Naming::From(v), v)
+fn is_same_line(a: Line, b: Line) -> bool {
+    is_same_mark(a.reads, b.reads)
+        & is_same_mark(a.makes, b.makes)
+        & (a.decides == b.decides)
+        & is_same_mark(a.stores, b.stores)
 }
 
-// One view more, with a comma between.
-fn listed(list: Text, v: u32) -> Text {
-    if list.is_empty() {
-        return list.put_number(v);
+fn is_alike_at(v: u32, i: u32) -> bool {
+    if i < CELLS {
+        let row = i / COLUMNS;
+        let k = i % COLUMNS;
+        return cell(v, row, k) == cell(FIRST, row, k);
     }
-    list.put(b", ").put_number(v)
+    let k = i - CELLS;
+    is_same_line(line_at(v, k), line_at(FIRST, k))
 }
 
-fn listed_if_unlike(list: Text, first: Text, v: u32) -> Text {
-    if chart(v).is(first) {
-        return list;
-    }
-    listed(list, v)
-}
-
-impl Comparison {
-    fn start(first: Text) -> Comparison {
-        Comparison {
-            first,
-            asked: listed(Text::empty(), 1),
-            unlike: Text::empty(),
+fn is_alike(v: u32) -> bool {
+    for i in 0..PARTS {
+        if !is_alike_at(v, i) {
+            return false;
         }
     }
-
-    fn with(self, v: u32) -> Comparison {
-        let first = self.first;
-        let asked = self.asked;
-        let unlike = self.unlike;
-        Comparison {
-            first,
-            asked: listed(asked, v),
-            unlike: listed_if_unlike(unlike, first, v),
-        }
-    }
-
-    fn write(self) {
-        let asked = self.asked;
-        let unlike = self.unlike;
-        Text::empty().put(b"\nasked at v = ").write();
-        asked.write();
-        if unlike.is_empty() {
-            Text::empty().put(b": all alike\n").write();
-            return;
-        }
-        Text::empty().put(b": unlike at v = ").write();
-        unlike.put(b"\n").write();
-    }
+    true
 }
 
-// Several views in a row, so that each slot of the record is met again, and the last whole one.
-pub(crate) fn write_comparison(first: Text) {
-    Comparison::start(first)
-        .with(2)
-        .with(3)
-        .with(4)
-        .with(5)
-        .with(6)
-        .with(7)
-        .with(8)
-        .with(LAST_WHOLE)
-        .write();
+// Writes the view down where its chart is unlike; gives 1 where one was so far.
+fn say_other(script: &[u8], unlike: usize, v: u32) -> usize {
+    if is_alike(v) {
+        return unlike;
+    }
+    say_word(script, b'U', unlike);
+    say_number(v as u64);
+    1
+}
+
+// The other views stand behind the letters from a to h.
+pub(crate) fn say_others(script: &[u8], c: Clause) {
+    let mut unlike = 0;
+    for letter in b'a'..b'i' {
+        unlike = say_other(script, unlike, c.long(letter));
+    }
+    say_word(script, b'A', unlike);
 }

@@ -1,62 +1,38 @@
 // The calendar of a view and of two overlapping agreements, as a chart that the engine itself fills in: for every beat a bench is
-// opened and asked. No beat of the calendar is written down here; a column is only counted from the first beat of view v, 4v.
-mod acts;
+// opened and asked. No beat of the calendar is written down; a column is only counted from the first beat of view v, 4v. The file
+// stdin has the layout: each line up to its bar, and behind the bar what to ask.
+mod answers;
 mod asking;
 mod beats;
+mod cells;
 mod comparing;
 mod lines;
-mod messages;
-mod naming;
-mod plan;
-mod readings;
 mod replica;
-mod rows;
-mod text;
+mod requests;
+mod way;
+mod words;
 
-use asking::is_view;
-use beats::LAST_VIEW;
-use beats::sum;
-use comparing::chart;
-use comparing::write_comparison;
-use lines::put_acts;
-use naming::Naming;
-use text::Text;
+use script::clause_at;
 
-fn write_title() {
-    Text::empty()
-        .put(
-            b"The calendar of a view and of two overlapping agreements, asked of the engine beat by beat.\n",
-        )
-        .put(b"x yes, . no, ? an answer that fits no case\n\n")
-        .write();
-}
+// Twice as long as the script, so that lines can be added; what does not fit is not read.
+const MOST: usize = 8192;
 
-fn write_first_view() {
-    let title = Text::empty().put(b"\nview 0\n");
-    put_acts(title, Naming::ByNumber, 0).write();
-}
-
-// Whether it is the last view is asked too.
-fn put_doubt(text: Text) -> Text {
-    if is_view(LAST_VIEW) & !is_view(sum(LAST_VIEW, 1)) {
-        return text;
+// A clause with a capital letter is a word, to be written with the answers.
+fn run(script: &[u8]) {
+    let mut at = 0;
+    while at < script.len() {
+        let c = clause_at(script, at);
+        if c.capital == 0 {
+            c.write(script);
+            requests::take(script, c);
+            c.write_end();
+        }
+        at = c.next;
     }
-    text.put(b" ?")
-}
-
-fn write_last_beats() {
-    let title = Text::empty()
-        .put(b"\nafter the last view, ")
-        .put_number(LAST_VIEW);
-    let line = put_doubt(title).put(b"\n");
-    put_acts(line, Naming::ByNumber, sum(LAST_VIEW, 1)).write();
 }
 
 fn main() {
-    write_title();
-    let first = chart(1);
-    first.write();
-    write_comparison(first);
-    write_first_view();
-    write_last_beats();
+    let mut space = [0u8; MOST];
+    let length = io::read_full(0, &mut space);
+    run(&space[..length]);
 }

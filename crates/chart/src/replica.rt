@@ -1,189 +1,155 @@
 // A bench that is asked: every answer of the chart comes from these calls.
-use super::messages::BENCHES;
-use super::messages::Head;
-use super::messages::LOG;
-use super::messages::PROPOSAL;
-use super::messages::Sent;
-use super::messages::front;
-use super::messages::head_of;
-use super::messages::nothing;
-use super::messages::write;
+use super::answers::ABOVE;
+use super::answers::KNOWN;
+use super::answers::LOG;
+use super::answers::NO;
+use super::answers::ODD;
+use super::answers::PROPOSAL;
+use super::answers::YES;
 use bench::Bench;
+use bench::LEAST_LENT;
+use bench::MOST_BYTES;
 use bench::Made;
 use bench::Start;
 use bench::Taken;
+use message::number::u32_in;
+use message::writer::write_log;
+use message::writer::write_proposal;
 
-// An answer that is no refusal, and still not the one expected.
-const UNEXPECTED: u8 = 255;
+// The one asked has number 0, and all messages are from the other.
+const BENCHES: u8 = 2;
 
-// The record and the lent lists as the last call left them, and the number of the first refusal, 0 where there was none.
+const SENDER: u8 = 1;
+
+// The record, the lent lists, and what came back last: of a message its answer, of a refused beginning its number, else 0.
 pub(crate) struct Replica {
     pub(crate) bench: Bench,
-    names: [u64; 6208],
-    counts: [u16; 6208],
-    pub(crate) refused: u8,
+    names: [u64; LEAST_LENT],
+    counts: [u16; LEAST_LENT],
+    pub(crate) answer: usize,
 }
 
-// What an act did: the message made, and whether a log was decided. It counts only where nothing was refused on the way.
+// A replica after its act, and what the act did: the message made, 0 for none, its view, and whether a log was decided.
 pub(crate) struct Deed {
-    pub(crate) refused: u8,
-    pub(crate) made: Head,
+    pub(crate) replica: Replica,
+    pub(crate) made: usize,
+    pub(crate) view: u32,
     pub(crate) decides: bool,
 }
 
-pub(crate) fn is_same(a: Deed, b: Deed) -> bool {
-    (a.refused == b.refused)
-        & (a.made.kind == b.made.kind)
-        & (a.made.view == b.made.view)
-        & (a.made.blocks == b.made.blocks)
-        & (a.decides == b.decides)
-}
-
-fn started(answer: Start) -> u8 {
+fn taken(answer: Taken) -> usize {
     match answer {
-        Start::Done => 0,
-        Start::Refused(x) => x,
+        Taken::First => YES,
+        Taken::Second => ODD,
+        Taken::Known => KNOWN,
+        Taken::Refused(x) => match x {
+            5 => ABOVE,
+            21 => NO,
+            _ => ODD,
+        },
     }
 }
 
-// Nobody here sends twice.
-fn taken(answer: Taken) -> u8 {
+fn made(answer: Made) -> usize {
     match answer {
-        Taken::First => 0,
-        Taken::Second => UNEXPECTED,
-        Taken::Known => UNEXPECTED,
-        Taken::Refused(x) => x,
+        Made::Nothing => NO,
+        Made::Log(blocks) => LOG + (blocks as usize),
+        Made::Proposal(blocks) => PROPOSAL + (blocks as usize),
+        Made::Refused(_) => ODD,
     }
 }
 
-fn acted(answer: Made) -> u8 {
-    match answer {
-        Made::Nothing => 0,
-        Made::Log(_) => 0,
-        Made::Proposal(_) => 0,
-        Made::Refused(x) => x,
+// The answer is to say what the buffer has.
+fn agreed(answer: usize, written: usize) -> usize {
+    if answer == written {
+        return answer;
     }
-}
-
-fn earlier(refused: u8, next: u8) -> u8 {
-    if refused == 0 {
-        return next;
-    }
-    refused
-}
-
-// The made message as the buffer has it.
-fn made(answer: Made, out: &[u8; 656]) -> Head {
-    match answer {
-        Made::Nothing => nothing(),
-        Made::Log(blocks) => head_of(out, blocks),
-        Made::Proposal(blocks) => head_of(out, blocks),
-        Made::Refused(_) => nothing(),
-    }
-}
-
-// The buffer holds another message than the answer says, or none.
-fn is_other(answer: Made, made: Head) -> bool {
-    match answer {
-        Made::Nothing => false,
-        Made::Log(blocks) => (made.kind != LOG) | (made.blocks != blocks),
-        Made::Proposal(blocks) => (made.kind != PROPOSAL) | (made.blocks != blocks),
-        Made::Refused(_) => false,
-    }
-}
-
-fn unexpected(is: bool) -> u8 {
-    if is {
-        return UNEXPECTED;
-    }
-    0
+    ODD
 }
 
 impl Replica {
+    // Where it is refused the record is of no bench.
     pub(crate) fn fresh() -> Replica {
-        let names = [0u64; 6208];
-        let counts = [0u16; 6208];
+        let names = [0u64; LEAST_LENT];
+        let counts = [0u16; LEAST_LENT];
         let opened = calls::open(BENCHES, 0, &names, &counts);
-        let answer = opened.answer;
         let bench = opened.bench;
         Replica {
             bench,
             names,
             counts,
-            refused: started(answer),
+            answer: 0,
         }
+    }
+
+    // Its record is of no bench, and each call on it is refused: so an answer on the way that fits no case shows in the last one.
+    pub(crate) fn spoilt(self) -> Replica {
+        let mut replica = self;
+        replica.bench.n = 0;
+        replica
     }
 
     pub(crate) fn begin(self, beat: u32) -> Replica {
-        let before = self.bench;
         let names = self.names;
         let counts = self.counts;
-        let begun = calls::begin(before, &names, &counts, beat);
+        let mut replica = self;
+        let begun = calls::begin(self.bench, &names, &counts, beat);
         let answer = begun.answer;
-        let bench = begun.bench;
-        Replica {
-            bench,
-            names,
-            counts,
-            refused: earlier(self.refused, started(answer)),
+        if let Start::Refused(x) = answer {
+            replica.answer = x as usize;
+            return replica.spoilt();
         }
+        let bench = begun.bench;
+        replica.bench = bench;
+        replica
     }
 
-    pub(crate) fn receive(self, sent: Sent) -> Replica {
-        let mut bytes = [0u8; 656];
-        let blocks = write(&mut bytes, sent);
-        self.take(&bytes, blocks)
+    // The LOG [5] of this view, or the PROPOSAL [5,7]; each block has one entry.
+    pub(crate) fn receive(self, kind: usize, view: u32) -> Replica {
+        let names = [5];
+        let counts = [1];
+        let mut log = [0u8; 26];
+        let mut proposal = [0u8; 36];
+        if kind == LOG {
+            write_log(&mut log, &names, &counts, 0, 1, SENDER, view);
+            return self.take(&log);
+        }
+        write_proposal(&mut proposal, &names, &counts, 0, 1, 7, 1, SENDER, view, 3);
+        self.take(&proposal)
     }
 
-    // The message of so many blocks.
-    fn take(self, bytes: &[u8; 656], blocks: u8) -> Replica {
-        let before = self.bench;
+    fn take(self, message: &[u8]) -> Replica {
         let mut names = self.names;
         let mut counts = self.counts;
-        let received = calls::receive(before, &mut names, &mut counts, front(bytes, blocks));
+        let received = calls::receive(self.bench, &mut names, &mut counts, message);
         let answer = received.answer;
         let bench = received.bench;
         Replica {
             bench,
             names,
             counts,
-            refused: earlier(self.refused, taken(answer)),
-        }
-    }
-
-    // With no block offered.
-    pub(crate) fn act(self) -> Replica {
-        let before = self.bench;
-        let mut names = self.names;
-        let mut counts = self.counts;
-        let mut out = [0u8; 656];
-        let done = calls::act(before, &mut names, &mut counts, &mut out, 0, 0, 0);
-        let answer = done.answer;
-        let bench = done.bench;
-        Replica {
-            bench,
-            names,
-            counts,
-            refused: earlier(self.refused, acted(answer)),
+            answer: taken(answer),
         }
     }
 
     // Block 6 is offered, with priority 9.
-    pub(crate) fn deed(self) -> Deed {
-        let before = self.bench;
-        let decided = before.decided;
+    pub(crate) fn act(self) -> Deed {
         let mut names = self.names;
         let mut counts = self.counts;
-        let mut out = [0u8; 656];
-        let done = calls::act(before, &mut names, &mut counts, &mut out, 6, 1, 9);
-        let answer = done.answer;
-        let bench = done.bench;
-        let made = made(answer, &out);
-        let refused = earlier(self.refused, acted(answer));
+        let mut out = [0u8; MOST_BYTES];
+        let acted = calls::act(self.bench, &mut names, &mut counts, &mut out, 6, 1, 9);
+        let answer = acted.answer;
+        let bench = acted.bench;
         Deed {
-            refused: earlier(refused, unexpected(is_other(answer, made))),
-            made,
-            decides: bench.decided != decided,
+            replica: Replica {
+                bench,
+                names,
+                counts,
+                answer: self.answer,
+            },
+            made: agreed(made(answer), u32_in(&out, 0) as usize),
+            view: u32_in(&out, 4),
+            decides: bench.decided != self.bench.decided,
         }
     }
 }

@@ -1,23 +1,23 @@
--- It ends: each turn leaves fewer bytes.
+-- It ends: each turn leaves fewer parts of the chart.
 use Prim.Native.Nat.{_-_}
 use borrow.Author.Needs.{needs}
-use Rattle.chart.proofs.text.are_same.Statement.{statement}
-use Rattle.chart.proofs.text.are_same.Tie as tie
+use Rattle.chart.proofs.comparing.is_alike.Statement.{statement}
+use Rattle.chart.proofs.comparing.is_alike.Tie as tie
+use Rattle.chart.proofs.comparing.is_alike.Reads as reads
+use Rattle.chart.proofs.comparing.is_alike.Lts as lts
+use Rattle.chart.proofs.comparing.is_alike_at.Reads as is-alike-at-reads
 
 abbrev Inv-loop : tie.InvT-loop
-Inv-loop a b i₀ i = Unit
+Inv-loop v i₀ i = Unit
 
 abbrev μ-loop : tie.MeasureT-loop
-μ-loop a b i₀ i = 4096 - i
+μ-loop v i₀ i = 148 - i
 
 loop-holds : tie.Need-loop-holds Inv-loop μ-loop
 loop-holds c = search needs
 
-element-copy-out-if1 : tie.Need-element-copy-out-if1 Inv-loop μ-loop
-element-copy-out-if1 c = search needs
-
-element-copy-out-if1-2 : tie.Need-element-copy-out-if1-2 Inv-loop μ-loop
-element-copy-out-if1-2 c = search needs
+is-alike-at-requires : tie.Need-is-alike-at-requires Inv-loop μ-loop
+is-alike-at-requires c κs = search needs
 
 returns : tie.Need-returns Inv-loop μ-loop
 returns c = search needs
@@ -34,15 +34,14 @@ loop-again c = search needs
 returns-2 : tie.Need-returns-2 Inv-loop μ-loop
 returns-2 c = search needs
 
-pub are-same-spec : {M : Type 1} → statement M
-are-same-spec =
+pub is-alike-spec : {M : Type 1} → statement M
+is-alike-spec =
     tie.close
     (tie.spec
     Inv-loop
     μ-loop
     loop-holds
-    element-copy-out-if1
-    element-copy-out-if1-2
+    is-alike-at-requires
     returns
     add-i
     loop-less
