@@ -1,6 +1,11 @@
 // The log that a clause names. A digit in brackets is the name of a block.
+use message::BLOCK_WIDTH;
+use message::HEAD_LENGTH;
 use message::MOST_BLOCKS;
 use script::Clause;
+
+// The longest LOG.
+const MOST_BYTES: usize = HEAD_LENGTH + BLOCK_WIDTH * MOST_BLOCKS;
 
 // As many blocks as digits, or as the clause says: [7,7,7,.. of 64].
 fn blocks(c: Clause) -> usize {
@@ -30,11 +35,11 @@ fn block_names(digits: u64) -> [u64; 64] {
 }
 
 // The LOG from the clause's sender, and zeros behind it, which filing does not read.
-pub(crate) fn log_bytes(c: Clause) -> [u8; 656] {
+pub(crate) fn log_bytes(c: Clause) -> [u8; MOST_BYTES] {
     let k = blocks(c);
     let names = block_names(c.number(b'['));
     let counts = [entry_count(c); 64];
-    let mut bytes = [0u8; 656];
+    let mut bytes = [0u8; MOST_BYTES];
     if k <= MOST_BLOCKS {
         message::writer::write_log(
             &mut bytes,
