@@ -27,7 +27,7 @@ pub(crate) const KNOWN: usize = 9;
 
 pub(crate) const ABOVE: usize = 10;
 
-// A message made, with its number of blocks added: the first four bytes of it, as a number.
+// A message made, with its number of blocks added.
 pub(crate) const LOG: usize = 65536;
 
 pub(crate) const PROPOSAL: usize = 131072;

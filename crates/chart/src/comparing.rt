@@ -7,6 +7,7 @@ use super::lines::Mark;
 use super::lines::line_at;
 use super::words::say_word;
 use script::Clause;
+use script::say;
 use script::say_number;
 
 // The view whose chart is written.
@@ -58,10 +59,24 @@ fn say_other(script: &[u8], unlike: usize, v: u32) -> usize {
 }
 
 // The other views stand behind the letters from a to h.
-pub(crate) fn say_others(script: &[u8], c: Clause) {
+fn say_asked(c: Clause) {
+    for letter in b'a'..b'i' {
+        say(b", ");
+        say_number(c.number(letter));
+    }
+}
+
+fn say_others(script: &[u8], c: Clause) {
     let mut unlike = 0;
     for letter in b'a'..b'i' {
         unlike = say_other(script, unlike, c.long(letter));
     }
     say_word(script, b'A', unlike);
+}
+
+// Which are asked, and which of them are unlike.
+pub(crate) fn say_comparison(script: &[u8], c: Clause) {
+    say_asked(c);
+    say(b": ");
+    say_others(script, c);
 }

@@ -12,7 +12,10 @@ use bench::MOST_BYTES;
 use bench::Made;
 use bench::Start;
 use bench::Taken;
-use message::number::u32_in;
+use message::BLOCK_WIDTH;
+use message::HEAD_LENGTH;
+use message::Message;
+use message::reader::read;
 use message::writer::write_log;
 use message::writer::write_proposal;
 
@@ -50,21 +53,52 @@ fn taken(answer: Taken) -> usize {
     }
 }
 
-fn made(answer: Made) -> usize {
-    match answer {
-        Made::Nothing => NO,
-        Made::Log(blocks) => LOG + (blocks as usize),
-        Made::Proposal(blocks) => PROPOSAL + (blocks as usize),
-        Made::Refused(_) => ODD,
+// A made message by its number, its kind and blocks, and its view.
+struct Said {
+    made: usize,
+    view: u32,
+}
+
+fn none(made: usize) -> Said {
+    Said { made, view: 0 }
+}
+
+// The message of so many blocks, as it is read back from the buffer.
+fn read_back(out: &[u8; MOST_BYTES], blocks: u8) -> Said {
+    let whole: &[u8] = out;
+    let size = HEAD_LENGTH + BLOCK_WIDTH * (blocks as usize);
+    if size <= whole.len() {
+        let message = read(BENCHES, &whole[0..size]);
+        return match message {
+            Message::Log(head) => Said {
+                made: LOG + (head.blocks as usize),
+                view: head.view,
+            },
+            Message::Proposal(head, _) => Said {
+                made: PROPOSAL + (head.blocks as usize),
+                view: head.view,
+            },
+            Message::Refused(_) => none(ODD),
+        };
     }
+    none(ODD)
 }
 
 // The answer is to say what the buffer has.
-fn agreed(answer: usize, written: usize) -> usize {
-    if answer == written {
-        return answer;
+fn agreed(made: usize, said: Said) -> Said {
+    if said.made == made {
+        return said;
     }
-    ODD
+    none(ODD)
+}
+
+fn made_message(answer: Made, out: &[u8; MOST_BYTES]) -> Said {
+    match answer {
+        Made::Nothing => none(NO),
+        Made::Log(blocks) => agreed(LOG + (blocks as usize), read_back(out, blocks)),
+        Made::Proposal(blocks) => agreed(PROPOSAL + (blocks as usize), read_back(out, blocks)),
+        Made::Refused(_) => none(ODD),
+    }
 }
 
 impl Replica {
@@ -140,6 +174,7 @@ impl Replica {
         let acted = calls::act(self.bench, &mut names, &mut counts, &mut out, 6, 1, 9);
         let answer = acted.answer;
         let bench = acted.bench;
+        let message = made_message(answer, &out);
         Deed {
             replica: Replica {
                 bench,
@@ -147,8 +182,8 @@ impl Replica {
                 counts,
                 answer: self.answer,
             },
-            made: agreed(made(answer), u32_in(&out, 0) as usize),
-            view: u32_in(&out, 4),
+            made: message.made,
+            view: message.view,
             decides: bench.decided != self.bench.decided,
         }
     }

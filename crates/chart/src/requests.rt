@@ -3,7 +3,7 @@ use super::answers::LOG;
 use super::asking::taken;
 use super::beats::moved;
 use super::comparing::FIRST;
-use super::comparing::say_others;
+use super::comparing::say_comparison;
 use super::words::say_cells;
 use super::words::say_line;
 use super::words::say_word;
@@ -24,7 +24,7 @@ pub(crate) fn take(script: &[u8], c: Clause) {
         b'c' => say_cells(script, FIRST, number),
         b'a' => say_line(script, false, FIRST, number),
         b'b' => say_line(script, true, number / 4, number % 4),
-        b'o' => say_others(script, c),
+        b'o' => say_comparison(script, c),
         b'l' => say_doubt(script, number),
         _ => {}
     }

@@ -34,7 +34,7 @@ fn block_names(digits: u64) -> [u64; 64] {
     names
 }
 
-// The LOG from the clause's sender, and zeros behind it, which filing does not read.
+// The LOG from the clause's sender, and zeros behind it.
 pub(crate) fn log_bytes(c: Clause) -> [u8; MOST_BYTES] {
     let k = blocks(c);
     let names = block_names(c.number(b'['));
@@ -50,6 +50,26 @@ pub(crate) fn log_bytes(c: Clause) -> [u8; MOST_BYTES] {
             c.byte(0),
             0,
         );
+    }
+    bytes
+}
+
+// The PROPOSAL in its place, with the clause's priority.
+pub(crate) fn proposal_bytes(c: Clause) -> [u8; MOST_BYTES] {
+    let mut bytes = log_bytes(c);
+    bytes[2] = 2;
+    bytes[8] = c.byte(b'y');
+    bytes
+}
+
+// The message alone, as many bytes as its blocks make.
+pub(crate) fn front(bytes: &[u8], c: Clause) -> &[u8] {
+    let k = blocks(c);
+    if k <= MOST_BLOCKS {
+        let size = HEAD_LENGTH + BLOCK_WIDTH * k;
+        if size <= bytes.len() {
+            return &bytes[0..size];
+        }
     }
     bytes
 }

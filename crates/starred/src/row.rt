@@ -1,5 +1,7 @@
 // A row of the table: what its clauses have done so far, and what its last clause asks for.
+use super::log::front;
 use super::log::log_bytes;
+use super::log::proposal_bytes;
 use agreement::Agreement;
 use agreement::Answer;
 use agreement::Choice;
@@ -68,7 +70,8 @@ impl Row {
         let g = self.agreement;
         let mut names = self.names;
         let mut counts = self.counts;
-        let filed = filing::file(g, &mut names, &mut counts, 0, &log_bytes(c), c.byte(0));
+        let bytes = log_bytes(c);
+        let filed = filing::file(g, &mut names, &mut counts, 0, front(&bytes, c), c.byte(0));
         let agreement = filed.agreement;
         let proposals = self.proposals;
         let answer = filed.answer;
@@ -82,17 +85,17 @@ impl Row {
         }
     }
 
-    // Filing a PROPOSAL reads no more of its bytes than the log, so those of a LOG serve.
     fn propose(self, c: Clause) -> Row {
         let g = self.proposals;
         let mut names = self.names;
         let mut counts = self.counts;
+        let bytes = proposal_bytes(c);
         let filed = proposing::file(
             g,
             &mut names,
             &mut counts,
             0,
-            &log_bytes(c),
+            front(&bytes, c),
             c.byte(0),
             c.number(b'y'),
         );

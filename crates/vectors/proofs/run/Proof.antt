@@ -12,10 +12,10 @@ use Rattle.script.proofs.clause_at.Reads as clause-at-reads
 use Rattle.vectors.proofs.step.take.Reads as take-reads
 
 abbrev Inv-loop : tie.InvT-loop
-Inv-loop script bytes₀ names₀ counts₀ at₀ bytes names counts at = Unit
+Inv-loop script bytes₀ out₀ names₀ counts₀ at₀ bytes out names counts at = Unit
 
 abbrev μ-loop : tie.MeasureT-loop
-μ-loop script bytes₀ names₀ counts₀ at₀ bytes names counts at = length script - at
+μ-loop script bytes₀ out₀ names₀ counts₀ at₀ bytes out names counts at = length script - at
 
 loop-holds : tie.Need-loop-holds Inv-loop μ-loop
 loop-holds c = search needs
