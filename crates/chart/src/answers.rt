@@ -27,6 +27,11 @@ pub(crate) const KNOWN: usize = 9;
 
 pub(crate) const ABOVE: usize = 10;
 
+// Of an act without a snapshot: it does the same as with both, or as if no LOG had been heard.
+pub(crate) const SAME: usize = 11;
+
+pub(crate) const UNHEARD: usize = 12;
+
 // A message made, with its number of blocks added.
 pub(crate) const LOG: usize = 65536;
 

@@ -6,6 +6,8 @@ use super::answers::LOG;
 use super::answers::NO;
 use super::answers::ODD;
 use super::answers::PROPOSAL;
+use super::answers::SAME;
+use super::answers::UNHEARD;
 use super::answers::YES;
 use super::asking::snapshot;
 use super::asking::taken;
@@ -28,18 +30,28 @@ fn is_same(a: Deed, b: Deed) -> bool {
     (a.made != ODD) & (a.made == b.made) & (a.view == b.view) & (a.decides == b.decides)
 }
 
-// Without snapshot one, or two, the act does the same as with both, or as if no LOG had been heard: grade 0 needs no snapshot,
-// grade 1 snapshot two, and grade 2 snapshot one.
-fn grade_of(heard: Deed, unheard: Deed, one: Deed, two: Deed) -> usize {
-    if is_same(one, heard) {
-        if is_same(two, heard) {
-            return GRADE_ZERO;
-        }
-        if is_same(two, unheard) {
-            return GRADE_ONE;
-        }
+// What the act of this beat does of the view's agreement without snapshot one, or without two.
+pub(crate) fn lacking(view: u32, one: bool, two: bool, beat: u32) -> usize {
+    let lacks = did(view, true, one, two, false, beat);
+    if is_same(lacks, did(view, true, true, true, false, beat)) {
+        return SAME;
     }
-    if is_same(one, unheard) & is_same(two, heard) {
+    if is_same(lacks, did(view, false, true, true, false, beat)) {
+        return UNHEARD;
+    }
+    ODD
+}
+
+// Grade 0 needs no snapshot, grade 1 snapshot two, and grade 2 snapshot one.
+fn grade_of(one: usize, two: usize) -> usize {
+    if one == SAME {
+        return match two {
+            SAME => GRADE_ZERO,
+            UNHEARD => GRADE_ONE,
+            _ => ODD,
+        };
+    }
+    if (one == UNHEARD) & (two == SAME) {
         return GRADE_TWO;
     }
     ODD
@@ -55,9 +67,10 @@ fn grade(view: u32, beat: u32) -> usize {
     if unheard.made == ODD {
         return ODD;
     }
-    let one = did(view, true, false, true, false, beat);
-    let two = did(view, true, true, false, false, beat);
-    grade_of(heard, unheard, one, two)
+    grade_of(
+        lacking(view, false, true, beat),
+        lacking(view, true, false, beat),
+    )
 }
 
 // The LOG heard has one block, and the PROPOSAL one more.

@@ -24,6 +24,8 @@ fn is_same_mark(a: Mark, b: Mark) -> bool {
 
 fn is_same_line(a: Line, b: Line) -> bool {
     is_same_mark(a.reads, b.reads)
+        & (a.one == b.one)
+        & (a.two == b.two)
         & is_same_mark(a.makes, b.makes)
         & (a.decides == b.decides)
         & is_same_mark(a.stores, b.stores)

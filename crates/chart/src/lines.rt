@@ -9,6 +9,7 @@ use super::beats::moved;
 use super::cells::GRADE;
 use super::cells::SNAPSHOT;
 use super::cells::answer;
+use super::cells::lacking;
 use super::way::did;
 
 // An answer, and the view it is of.
@@ -19,6 +20,9 @@ pub(crate) struct Mark {
 
 pub(crate) struct Line {
     pub(crate) reads: Mark,
+    // what it does without snapshot one, and without two, of what it reads
+    pub(crate) one: usize,
+    pub(crate) two: usize,
     pub(crate) makes: Mark,
     pub(crate) decides: bool,
     pub(crate) stores: Mark,
@@ -79,6 +83,14 @@ fn counted(v: u32, answer: usize, view: u32) -> Mark {
     }
 }
 
+// Where nothing is read, no snapshot matters.
+fn lacked(found: Mark, one: bool, two: bool, beat: u32) -> usize {
+    if found.answer == NO {
+        return NO;
+    }
+    lacking(found.view, one, two, beat)
+}
+
 // The act of column k of view v.
 pub(crate) fn line_at(v: u32, k: u32) -> Line {
     let beat = beat_of(v, k);
@@ -87,6 +99,8 @@ pub(crate) fn line_at(v: u32, k: u32) -> Line {
     let deed = did(reads.view, reads.answer != NO, true, true, false, beat);
     Line {
         reads: counted(v, read(reads.answer, deed.made), reads.view),
+        one: lacked(reads, false, true, beat),
+        two: lacked(reads, true, false, beat),
         makes: counted(v, deed.made, deed.view),
         decides: deed.decides,
         stores: counted(v, stores.answer, stores.view),

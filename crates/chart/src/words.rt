@@ -53,7 +53,8 @@ pub(crate) fn say_line(script: &[u8], by_number: bool, v: u32, k: u32) {
     if 0 < say_word(script, b'B', begun.answer) {
         let line = line_at(v, k);
         say_mark(script, b'R', line.reads, by_number, v);
-        say_word(script, b'W', line.reads.answer);
+        say_word(script, b'W', line.one);
+        say_word(script, b'W', line.two);
         say_mark(script, b'M', line.makes, by_number, v);
         say_word(script, b'D', line.decides as usize);
         say_mark(script, b'S', line.stores, by_number, v);
