@@ -4,10 +4,9 @@ use mathlib.Core.List.{List}
 use mathlib.Core.Path.{_≡_}
 use Rattle.message.specs.Message.{countIn, logIn}
 use Rattle.message.specs.Store.{holdsLog}
+use Rattle.agreement.specs.Record.{Agreement}
 use Rattle.agreement.specs.Filing.{fileOf}
-use Rattle.agreement.specs.Proposals.{fileProposalOf}
-use Rattle.agreement.specs.declared.Agreement.{Agreement}
-use Rattle.agreement.specs.declared.Proposals.{Proposals}
+use Rattle.agreement.specs.Proposals.{Proposals, fileProposalOf}
 
 module _ (names counts : List ℕ) (base i : ℕ) (s t : List ℕ) (k : countIn s ≡ countIn t) (h : holdsLog s ≡ holdsLog t) (l : logIn s ≡ logIn t) where
   pub same-filed : (g : Agreement) → fileOf g names counts base s i ≡ fileOf g names counts base t i

@@ -1,32 +1,27 @@
 -- The vote: what is chosen fits and has a place in the record, no sender that fits is better, and none is chosen exactly where none fits; and the
 -- walk along the senders. Assumes nothing.
-use Prim.Native.Nat.{ℕ, zero, suc, _+_, _≤_, _<_}
+use Prim.Native.Nat.{ℕ, zero, suc, _+_, _-_, _/_, _%_, _^_, _≤_, _<_}
 use native.Mathlib.Omega.{arith}
 use mathlib.Core.List.{List}
-use mathlib.Core.Bool.{Bool, true, false, not, _&&_, false≢true}
+use mathlib.Core.Bool.{Bool, true, false, not, _&&_, and-assoc, false≢true}
 use mathlib.Core.Option.{Option, some, none, Option·some-ne-none, Option·some-injective, Option·none-ne-some}
 use mathlib.Core.Logic.{inl, inr, _↔_}
 use mathlib.Core.Path.{_≡_, refl, sym, ap, subst, _∙_}
-use borrow.Author.Tests.{lt-ltb, le-ltb, ltb-true, ltb-false}
-use lib.Dec.{ltb}
+use borrow.Author.Tests.{ltb-true, ltb-false}
+use lib.Dec.{eqb, ltb}
 use lib.ListN.{getD}
 use Rattle.message.specs.Choice.{pick}
 use Rattle.message.specs.Store.{prefixAt}
 use Rattle.message.proofs.TestLaws.{either}
 use Rattle.agreement.specs.Limits.{mostSenders, placeOf}
 use Rattle.agreement.specs.Record.{lacksRoom}
-use Rattle.agreement.specs.Steps.{Contest}
-use Rattle.agreement.specs.Proposals.{fits, NotBelow, Best, better, ifFits, bestOf, choiceOf, chosen, HasPlace, Chooses}
-use Rattle.agreement.specs.declared.Proposals.{Proposals}
+use Rattle.agreement.specs.Sets.{member}
+use Rattle.agreement.specs.Steps.{SetOf, Walks, beats, Contest}
+use Rattle.agreement.specs.Proposals.{Proposals, proposalsFrom, fits, NotBelow, Best, better, ifFits, bestOf, choiceOf, chosen, HasPlace, Chooses}
+use Rattle.agreement.specs.declared.Shown.{Shown}
 use Rattle.agreement.specs.declared.Choice.{Choice}
 use Rattle.agreement.specs.declared.Choice.the-variants.{Proposal, Lock}
-
--- ---- the code's test of one sender, from what it found
-
-pub fits-is : (names counts : List ℕ) (base : ℕ) (g : Proposals) (a k i p : ℕ) (r : Bool) → p ≡ placeOf base i
-    → r ≡ prefixAt names counts a k p (getD (g .lengths) i 0)
-    → (getD (g .filed) i false && (not (getD (g .aside) i false) && r)) ≡ fits names counts base g a k i
-fits-is names counts base g a k i p r q e = rw (e, q)
+use Rattle.agreement.proofs.CountLaws.{walk-start, walk-next, walk-on, walk-below, walk-room, walk-end}
 
 -- ---- the better of two, as the code finds it
 
@@ -34,57 +29,136 @@ fits-is names counts base g a k i p r q e = rw (e, q)
 pub best-place : (best : Choice) (j : ℕ) → HasPlace best → best ≡ Proposal j → j < mostSenders
 best-place best j w e = rw e at w
 
+pub beats-one : (priorities : List ℕ) (best : Choice) (i j : ℕ) → best ≡ Proposal j
+    → ltb (getD priorities j 0) (getD priorities i 0) ≡ beats (λ (k : ℕ). getD priorities k 0) (chosen best) i
+beats-one priorities best i j e = rw e refl
+
 module _ (p : ℕ → ℕ) (best : Choice) (i : ℕ) where
-  pub better-alone : Contest best i → best ≡ Lock → Chooses (better p (chosen best) i) (Proposal i)
-  better-alone c e = rw e (record { sender = refl; place = c .few })
+  pub beats-none : best ≡ Lock → true ≡ beats p (chosen best) i
+  beats-none e = rw e refl
 
-  module _ (j : ℕ) (c : Contest best i) (e : best ≡ Proposal j) where
-    pub better-higher : p j < p i → Chooses (better p (chosen best) i) (Proposal i)
-    better-higher h = rw (e, lt-ltb (p j) (p i) h) (record { sender = refl; place = c .few })
+wins : (p : ℕ → ℕ) (o : Option ℕ) (i : ℕ) → beats p o i ≡ true → better p o i ≡ some i
+wins p none i h = refl
+wins p (some j) i h = rw h refl
 
-    pub better-first : p i ≤ p j → Chooses (better p (chosen best) i) (Proposal j)
-    better-first h = record { sender = rw (e, le-ltb (p j) (p i) h); place = best-place best j (c .place) e }
+loses : (p : ℕ → ℕ) (t : Bool) (o : Option ℕ) (i : ℕ) → beats p o i ≡ false → ifFits t p o i ≡ o
+loses p true none i h = absurd (false≢true (sym h))
+loses p true (some j) i h = rw h refl
+loses p false o i h = refl
 
-  -- the same where sender i may fail the test
-  module _ (q r : Bool) (e : r ≡ q) where
-    pub passed : (z : Choice) → r ≡ true → Chooses (better p (chosen best) i) z → Chooses (ifFits q p (chosen best) i) z
-    passed z t w = rw (← e, t) w
+module _ (lengths priorities names counts : List ℕ) (base a k : ℕ) (best : Choice) (i : ℕ) (c : Contest best i) where
+  abbrev prior : ℕ → ℕ
+  prior j = getD priorities j 0
 
-    pub failed : r ≡ false → Contest best i → Chooses (ifFits q p (chosen best) i) best
-    failed t c = rw (← e, t) (record { sender = refl; place = c .place })
+  -- the best to i, where the lock is a prefix of its log or not
+  abbrev To : Choice → Type 0
+  To z = Chooses (ifFits (prefixAt names counts a k (placeOf base i) (getD lengths i 0)) prior (chosen best) i) z
 
--- ---- the walk along the senders
+  pub best-loses : (r : Bool) → r ≡ beats prior (chosen best) i → r ≡ false → To best
+  best-loses r f n =
+      record { sender = sym (loses prior (prefixAt names counts a k (placeOf base i) (getD lengths i 0)) (chosen best) i (sym f ∙ n)); place = c .place }
 
-module _ (p : ℕ → Bool) (q : ℕ → ℕ) where
-  pub best-start : Chooses (bestOf 0 p q) Lock
+  module _ (x : Bool) (y : ℕ) (s : y ≡ getD lengths i 0) (e : x ≡ prefixAt names counts a k (placeOf base i) y) where
+    found : prefixAt names counts a k (placeOf base i) (getD lengths i 0) ≡ x
+    found = sym (e ∙ ap (prefixAt names counts a k (placeOf base i)) s)
+
+    pub best-wins : (r : Bool) → r ≡ beats prior (chosen best) i → r ≡ true → x ≡ true → To (Proposal i)
+    best-wins r f b t = rw (found ∙ t) (record { sender = sym (wins prior (chosen best) i (sym f ∙ b)); place = c .few })
+
+    pub best-unfit : x ≡ false → To best
+    best-unfit t = rw (found ∙ t) (record { sender = refl; place = c .place })
+
+-- ---- senders from n on change nothing where none of them passes
+
+pub best-cut : (n d : ℕ) (p : ℕ → Bool) (q : ℕ → ℕ) → ((i : ℕ) → n ≤ i → i < n + d → p i ≡ false) → bestOf (n + d) p q ≡ bestOf n p q
+unfolding bestOf
+best-cut n zero p q h = let s : n + 0 ≡ n = omega arith in ap (λ (k : ℕ). bestOf k p q) s
+best-cut n (suc d) p q h =
+    let s : n + suc d ≡ suc (n + d) = omega arith in
+    let e = h (n + d) (omega arith) (omega arith) in
+    let r = best-cut n d p q (λ i a b. h i a (omega arith)) in
+    ap (λ (k : ℕ). bestOf k p q) s ∙ (λ i. ifFits (e i) q (bestOf (n + d) p q) (n + d)) ∙ r
+
+-- the same where the same pass
+best-same : (n : ℕ) (p p′ : ℕ → Bool) (q : ℕ → ℕ) → ((i : ℕ) → i < n → p i ≡ p′ i) → bestOf n p q ≡ bestOf n p′ q
+unfolding bestOf
+best-same zero p p′ q h = refl
+best-same (suc n) p p′ q h =
+    let e = h n (omega arith) in
+    let r = best-same n p p′ q (λ i l. h i (omega arith)) in
+    λ i. ifFits (e i) q (r i) n
+
+-- ---- the walk along the senders of a set: those whose proposals are filed and not set aside
+
+-- of the senders below i, the best is found; `left` tells of the others
+pub record Choosing (lengths priorities names counts : List ℕ) (base a k set i left : ℕ) (best : Choice) : Type 0 where
+  pub walk : Walks set i left
+  pub room : i ≤ mostSenders
+  pub choice : Chooses (bestOf i (λ (j : ℕ). member set j && prefixAt names counts a k (placeOf base j) (getD lengths j 0)) (λ (j : ℕ). getD priorities j 0)) best
+
+module _ (lengths priorities names counts : List ℕ) (base a k set : ℕ) where
+  abbrev q : ℕ → ℕ
+  q j = getD priorities j 0
+
+  -- sender j's proposal has the lock as a prefix
+  abbrev has-lock : ℕ → Bool
+  has-lock j = prefixAt names counts a k (placeOf base j) (getD lengths j 0)
+
+  abbrev may : ℕ → Bool
+  may j = member set j && has-lock j
+
+  abbrev Best-to : ℕ → Choice → Type 0
+  Best-to i best = Chooses (bestOf i may q) best
+
+  pub best-start : set < 2 ^ mostSenders → Choosing lengths priorities names counts base a k set 0 set Lock
   unfolding bestOf
-  best-start = record { sender = refl; place = tt }
+  best-start h = record { walk = walk-start set h; room = omega arith; choice = record { sender = refl; place = tt } }
 
-  module _ (best : Choice) (i : ℕ) (h : Chooses (bestOf i p q) best) where
-    pub best-next : (z : Choice) → Chooses (ifFits (p i) q (chosen best) i) z → Chooses (bestOf (i + 1) p q) z
-    unfolding bestOf
-    best-next z w =
-        let e : i + 1 ≡ suc i = omega arith in
-        record {
-          sender = w .sender ∙ ap (λ (o : Option ℕ). ifFits (p i) q o i) (h .sender) ∙ sym (ap (λ (n : ℕ). bestOf n p q) e);
-          place = w .place;
-        }
+  one-more : (i : ℕ) (best z : Choice) → Best-to i best → Chooses (ifFits (may i) q (chosen best) i) z → Best-to (i + 1) z
+  unfolding bestOf
+  one-more i best z h w =
+      let e : i + 1 ≡ suc i = omega arith in
+      record {
+        sender = w .sender ∙ ap (λ (o : Option ℕ). ifFits (may i) q o i) (h .sender) ∙ sym (ap (λ (n : ℕ). bestOf n may q) e);
+        place = w .place;
+      }
 
-    pub best-asks : i < mostSenders → Contest best i
-    best-asks f = record { place = h .place; few = f }
+  module _ (best : Choice) (i left : ℕ) (h : Choosing lengths priorities names counts base a k set i left best) where
+    turn : 0 < left → (z : Choice) → Best-to (i + 1) z → Choosing lengths priorities names counts base a k set (i + 1) (left / 2) z
+    turn p z b = record { walk = walk-next set i left (h .walk); room = walk-room set i left (h .walk) p; choice = b }
 
-module _ (names counts : List ℕ) (base : ℕ) (g : Proposals) (a k : ℕ) (r : Bool) (e : r ≡ lacksRoom names counts base) where
-  pub choice-lacks : r ≡ true → Chooses (choiceOf names counts base g a k) Lock
+    pub best-skip : 0 < left → eqb (left % 2) 1 ≡ false → Choosing lengths priorities names counts base a k set (i + 1) (left / 2) best
+    best-skip p e =
+        let no : may i ≡ false = ap (λ (t : Bool). t && has-lock i) (sym (walk-on set i left (h .walk)) ∙ e) in
+        turn p best
+        (one-more i best best (h .choice)
+        (subst (λ (t : Bool). Chooses (ifFits t q (chosen best) i) best) (sym no) (record { sender = refl; place = h .choice .place })))
+
+    pub best-next : 0 < left → eqb (left % 2) 1 ≡ true → (z : Choice) → Chooses (ifFits (has-lock i) q (chosen best) i) z
+        → Choosing lengths priorities names counts base a k set (i + 1) (left / 2) z
+    best-next p e z d =
+        let yes : may i ≡ has-lock i = ap (λ (t : Bool). t && has-lock i) (sym (walk-on set i left (h .walk)) ∙ e) in
+        turn p z (one-more i best z (h .choice) (subst (λ (t : Bool). Chooses (ifFits t q (chosen best) i) z) (sym yes) d))
+
+    pub best-asks : 0 < left → Contest best i
+    best-asks p = record { place = h .choice .place; few = walk-below set i left (h .walk) p }
+
+    pub best-end : (m : Shown) (r : Bool) → SetOf (λ (j : ℕ). member (m .filed) j && not (member (m .aside) j)) mostSenders set
+        → r ≡ lacksRoom names counts base → r ≡ false → left ≤ 0
+        → Chooses (choiceOf names counts base (proposalsFrom m lengths priorities) a k) best
+    unfolding choiceOf
+    best-end m r s e t n =
+        let l = h .room in
+        let u : i + (mostSenders - i) ≡ mostSenders = omega arith in
+        let cut = best-cut i (mostSenders - i) may q (λ j x y. ap (λ (v : Bool). v && has-lock j) (walk-end set i left (h .walk) n j x)) in
+        let same = best-same mostSenders may (fits names counts base (proposalsFrom m lengths priorities) a k) q (λ j x.
+        ap (λ (v : Bool). v && has-lock j) (s .at j x) ∙ and-assoc (member (m .filed) j) (not (member (m .aside) j)) (has-lock j)) in
+        rw (← e, t) (record { sender = h .choice .sender ∙ sym cut ∙ ap (λ (x : ℕ). bestOf x may q) u ∙ same; place = h .choice .place })
+
+module _ (m : Shown) (lengths priorities names counts : List ℕ) (base a k : ℕ) where
+  pub choice-lacks : (r : Bool) → r ≡ lacksRoom names counts base → r ≡ true → Chooses (choiceOf names counts base (proposalsFrom m lengths priorities) a k) Lock
   unfolding choiceOf
-  choice-lacks t = rw (← e, t) (record { sender = refl; place = tt })
-
-  pub choice-end : (best : Choice) (i : ℕ) → r ≡ false → (i ≤ mostSenders) × (mostSenders ≤ i)
-      → Chooses (bestOf i (fits names counts base g a k) (λ (j : ℕ). getD (g .priorities) j 0)) best
-      → Chooses (choiceOf names counts base g a k) best
-  unfolding choiceOf
-  choice-end best i t (l, m) w =
-      let same : i ≡ mostSenders = omega arith in
-      rw (← e, t) (subst (λ (n : ℕ). Chooses (bestOf n (fits names counts base g a k) (λ (j : ℕ). getD (g .priorities) j 0)) best) same w)
+  choice-lacks r e t = rw (← e, t) (record { sender = refl; place = tt })
 
 -- ---- the best of the senders below n
 

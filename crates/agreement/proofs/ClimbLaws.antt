@@ -16,16 +16,13 @@ use Rattle.message.proofs.ListedLaws.{length-at, log-empty, prefix-at, prefix-t
 use Rattle.agreement.specs.Limits.{mostSenders, placeOf}
 use Rattle.agreement.specs.Sets.{ones, count, member}
 use Rattle.agreement.specs.Record.{filedLog}
-use Rattle.agreement.specs.Steps.{SetOf, backing, Majority, nextBlock, narrowed, runLength, alike, narrowedBy, Far, holding, Next, Voted, Climbing, Following, Climbed}
+use Rattle.agreement.specs.Steps.{SetOf, backing, Majority, nextBlock, narrowed, runLength, alike, narrowedBy, Far, holding, Voted, Climbing, Following, Climbed}
 use Rattle.agreement.specs.declared.Grade.the-variants.{Longest}
 use Rattle.agreement.proofs.SetLaws.{Meet, weigh-mono, weigh-meet, weigh-some, weigh-cong}
-use Rattle.agreement.proofs.NarrowLaws.{and-true, prefix-one-more, prefix-run}
+use Rattle.agreement.proofs.MaskLaws.{and-true}
+use Rattle.agreement.proofs.NarrowLaws.{prefix-one-more, prefix-run}
 
--- a block more than l, where l is not the most
-pub climb-next : {names counts : List ℕ} {base : ℕ} {lengths : List ℕ} {may : List Bool} {all l : ℕ} → Climbing names counts base lengths may all → l < mostBlocks → Next names counts base l
-climb-next k h = record { inNames = k .readable .inNames; inCounts = k .readable .inCounts; few = h }
-
-module _ (names counts : List ℕ) (base : ℕ) (lengths : List ℕ) (may : List Bool) (all : ℕ) where
+module _ (names counts : List ℕ) (base : ℕ) (lengths : List ℕ) (may : ℕ) (all : ℕ) where
   -- the first l blocks at sender i's place
   abbrev at : ℕ → ℕ → Log
   at i l = logAt names counts (placeOf base i) l
@@ -62,7 +59,7 @@ module _ (names counts : List ℕ) (base : ℕ) (lengths : List ℕ) (may : List
     enough = k .enough;
   }
 
-  module _ (who l : ℕ) (followers : List Bool) (f : Following names counts base lengths may all who l followers) where
+  module _ (who l : ℕ) (followers : ℕ) (f : Following names counts base lengths may all who l followers) where
     -- ---- one block more
 
     -- the followers that go on as c does, where c's log starts as theirs
@@ -74,7 +71,7 @@ module _ (names counts : List ℕ) (base : ℕ) (lengths : List ℕ) (may : List
         ∙ ap (λ (L : Log). member may j && (isPrefix L (log j) && n)) (sym e)
         ∙ ap (λ (t : Bool). member may j && t) (sym (prefix-one-more names counts (placeOf base c) (placeOf base j) l (getD lengths j 0)))
 
-    module _ (narrow : List Bool) (n : ℕ) (q : n ≡ count mostSenders (member narrow)) where
+    module _ (narrow : ℕ) (n : ℕ) (q : n ≡ count mostSenders (member narrow)) where
       follow : (c : ℕ) → at c l ≡ at who l → SetOf (narrowed names counts base lengths followers l (next l c)) mostSenders narrow → all < 2 * n
           → Following names counts base lengths may all c (l + 1) narrow
       follow c e s h = record { at = λ j k. s .at j k ∙ back-next c j e k; enough = omega arith }
@@ -105,7 +102,7 @@ module _ (names counts : List ℕ) (base : ℕ) (lengths : List ℕ) (may : List
         ∙ and-assoc (member may j) (isPrefix (at who l) (log j)) n
         ∙ ap (λ (t : Bool). member may j && t) (sym (prefix-run names counts (placeOf base who) (placeOf base j) l (getD lengths j 0) k))
 
-    module _ (far : List Bool) (n : ℕ) (r : Far names counts base lengths followers l who far) (q : n ≡ count mostSenders (member far)) (h : all < 2 * n) where
+    module _ (far : ℕ) (n : ℕ) (r : Far names counts base lengths followers l who far) (q : n ≡ count mostSenders (member far)) (h : all < 2 * n) where
       pub follow-far : Following names counts base lengths may all who (l + runLength) far
       follow-far = record { at = λ j k. r .some (omega arith) .1 .at j k ∙ back-run runLength j k; enough = omega arith }
 
@@ -178,7 +175,7 @@ module _ (names counts : List ℕ) (base : ℕ) (lengths : List ℕ) (may : List
             let z = k .few in
             sameBlock-eq (next l s) (next l c) (v .led (next l s) (omega arith))
 
-        counted : (c : ℕ) → Voted names counts base followers l who c → (narrow : List Bool)
+        counted : (c : ℕ) → Voted names counts base followers l who c → (narrow : ℕ)
             → SetOf (narrowed names counts base lengths followers l (next l c)) mostSenders narrow → all < 2 * count mostSenders (member narrow)
         counted c v narrow t =
             let a = going in
@@ -186,7 +183,7 @@ module _ (names counts : List ℕ) (base : ℕ) (lengths : List ℕ) (may : List
             let d = weigh-cong mostSenders ones (member narrow) (narrowed names counts base lengths followers l (next l c)) (t .at) in
             omega arith
 
-      pub top-voted : (c : ℕ) (narrow : List Bool) (n : ℕ) → Voted names counts base followers l who c
+      pub top-voted : (c : ℕ) (narrow : ℕ) (n : ℕ) → Voted names counts base followers l who c
           → SetOf (narrowed names counts base lengths followers l (next l c)) mostSenders narrow → n ≡ count mostSenders (member narrow) → 2 * n ≤ all
           → l ≤ mostBlocks → who < mostSenders → Climbed names counts base lengths may all (Longest who l)
       top-voted c narrow n v t q z b w = record {

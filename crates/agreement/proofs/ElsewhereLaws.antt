@@ -20,12 +20,10 @@ use Rattle.message.proofs.ListedLaws.{log-before, log-past}
 use Rattle.message.proofs.PartLaws.{length-put, put-all-below}
 use Rattle.agreement.specs.Limits.{mostSenders, span, placeOf}
 use Rattle.agreement.specs.Sets.{member}
-use Rattle.agreement.specs.Record.{isVoter, isEquivocator, filedLog}
+use Rattle.agreement.specs.Record.{Agreement, isVoter, isEquivocator, filedLog}
 use Rattle.agreement.specs.Filing.{unfit, fileOf, Fit}
-use Rattle.agreement.specs.Proposals.{fileProposalOf}
+use Rattle.agreement.specs.Proposals.{Proposals, fileProposalOf}
 use Rattle.agreement.specs.Kept.{nothing, only, differing, keptLog, keptProposal}
-use Rattle.agreement.specs.declared.Agreement.{Agreement}
-use Rattle.agreement.specs.declared.Proposals.{Proposals}
 use Rattle.agreement.proofs.FilingLaws.{few-blocks}
 use Rattle.agreement.proofs.KeptLaws.{cases}
 
@@ -85,7 +83,7 @@ module _ (names counts : List ℕ) (base : ℕ) (s : List ℕ) (i : ℕ) (f : Fi
   unfolding fileProposalOf
   proposal-elsewhere g priority =
       cases (Elsewhere base span names counts (fileProposalOf g names counts base s i priority .names) (fileProposalOf g names counts base s i priority .counts))
-      (unfit names counts base s i || member (g .aside) i) (member (g .filed) i)
+      (unfit names counts base s i || member (g .marks .aside) i) (member (g .marks .filed) i)
       (sameLog (logIn s) (filedLog names counts base (g .lengths) i) && eqb priority (getD (g .priorities) i 0))
       (λ q. rw q (untouched base span names counts))
       (λ q v e. rw (q, v, e) (untouched base span names counts))
@@ -112,12 +110,12 @@ module _ {b w : ℕ} {names counts names′ counts′ : List ℕ} (d : Elsewhere
     | no l ↦ rw (past (omega arith))
   ]
 
-  pub proposal-kept-elsewhere : (g : Proposals) → Short (g .lengths) → (i : ℕ) → (mostSenders ≤ i → member (g .filed) i ≡ false)
+  pub proposal-kept-elsewhere : (g : Proposals) → Short (g .lengths) → (i : ℕ) → (mostSenders ≤ i → member (g .marks .filed) i ≡ false)
       → keptProposal names′ counts′ base g i ≡ keptProposal names counts base g i
   unfolding keptProposal
   proposal-kept-elsewhere g short i past = elim (decLt i mostSenders) [
     | yes l ↦
-        ap (λ (L : Log). pick (member (g .aside) i) differing (pick (member (g .filed) i) (only (record { log = L; priority = getD (g .priorities) i 0 })) nothing))
+        ap (λ (L : Log). pick (member (g .marks .aside) i) differing (pick (member (g .marks .filed) i) (only (record { log = L; priority = getD (g .priorities) i 0 })) nothing))
         (log-same (g .lengths) short i l)
     | no l ↦ rw (past (omega arith))
   ]

@@ -7,7 +7,7 @@ use mathlib.Core.Bool.{Bool, true, false, not, _&&_, _||_, and-eq-true-iff}
 use mathlib.Core.Path.{_≡_, sym, ap, _∙_}
 use borrow.Author.Tests.{leb-true, leb-false, lt-leb, ltb-false, le-ltb, not-false}
 use lib.Dec.{leb, ltb}
-use lib.ListN.{length, getD}
+use lib.ListN.{length}
 use Rattle.message.specs.Limits.{mostBlocks, headLength, blockWidth}
 use Rattle.message.specs.Logs.{Log, sameLog, namesOf, countsOf}
 use Rattle.message.specs.Numbers.{put}
@@ -19,9 +19,8 @@ use Rattle.message.proofs.ListedLaws.{Within, length-at, of-within}
 use Rattle.message.proofs.Acceptance.{length-blocks}
 use Rattle.message.proofs.Inside.{matches-inside, stored-inside}
 use Rattle.agreement.specs.Limits.{mostSenders, span, placeOf}
-use Rattle.agreement.specs.Record.{filedLog, lacksRoom}
-use Rattle.agreement.specs.Filing.{unfit}
-use Rattle.agreement.specs.Filing.{Fit}
+use Rattle.agreement.specs.Record.{lacksRoom}
+use Rattle.agreement.specs.Filing.{unfit, Fit}
 
 -- the code's test, from what it found
 pub unfit-is : (m n base : ℕ) (s : List ℕ) (i : ℕ) (l h : Bool) → l ≡ (ltb m (base + span) || ltb n (base + span)) → h ≡ holdsLog s
@@ -92,17 +91,15 @@ module _ (names counts : List ℕ) (base : ℕ) (s : List ℕ) (i : ℕ) where
     matches-long a k h = rw (lt-leb k mostBlocks h, f .holds)
 
     -- the test of the lists is the test of the logs, whatever length is stored
-    pub matches-filed : (lengths : List ℕ) → matchesAt s names counts (placeOf base i) (getD lengths i 0) ≡ sameLog (logIn s) (filedLog names counts base lengths i)
-    matches-filed lengths =
-        let k = getD lengths i 0 in
+    pub matches-filed : (k : ℕ) → matchesAt s names counts (placeOf base i) k ≡ sameLog (logIn s) (logAt names counts (placeOf base i) k)
+    matches-filed k =
         let a = placeOf base i in
         either (leb k mostBlocks)
         (λ q. matches-inside s names counts a k (f .holds) (within-filed k (leb-true k mostBlocks q)))
         (λ q. matches-long a k (leb-false k mostBlocks q) ∙ sym (unlike a k (leb-false k mostBlocks q)))
 
-    pub is-filed : (lengths : List ℕ) (p : ℕ) (r : Bool) → p ≡ placeOf base i → r ≡ matchesAt s names counts p (getD lengths i 0)
-        → r ≡ sameLog (logIn s) (filedLog names counts base lengths i)
-    is-filed lengths p r q e = e ∙ ap (λ (a : ℕ). matchesAt s names counts a (getD lengths i 0)) q ∙ matches-filed lengths
+    pub is-filed : (k p : ℕ) (r : Bool) → p ≡ placeOf base i → r ≡ matchesAt s names counts p k → r ≡ sameLog (logIn s) (logAt names counts (placeOf base i) k)
+    is-filed k p r q e = e ∙ ap (λ (a : ℕ). matchesAt s names counts a k) q ∙ matches-filed k
 
     -- the log in the bytes is stored at the sender's place
     module _ (p : ℕ) (r : Bool) (ns cs : List ℕ) (e : p ≡ placeOf base i) (done : Stores (fileOf names counts p s) r ns cs) where

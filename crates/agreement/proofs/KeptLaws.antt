@@ -20,13 +20,11 @@ use Rattle.message.proofs.Acceptance.{length-blocks}
 use Rattle.message.proofs.ListedLaws.{log-stored, log-before, log-past}
 use Rattle.agreement.specs.Limits.{placeOf}
 use Rattle.agreement.specs.Sets.{member}
-use Rattle.agreement.specs.Record.{isVoter, isEquivocator, isSender, filedLog}
-use Rattle.agreement.specs.Filing.{unfit, fileOf}
-use Rattle.agreement.specs.Proposals.{fileProposalOf}
+use Rattle.agreement.specs.Record.{Agreement, isVoter, isEquivocator, isSender, filedLog}
+use Rattle.agreement.specs.Filing.{unfit, fileOf, Fit}
+use Rattle.agreement.specs.Proposals.{Proposals, fileProposalOf}
 use Rattle.agreement.specs.Kept.{nothing, only, differing, Sized, SizedProposals, SameRest, heardOf, singleOf, wordOn, keep, keptLog, Proposed, sameProposal, keptProposal}
-use Rattle.agreement.specs.Filing.{Fit}
-use Rattle.agreement.specs.declared.Agreement.{Agreement}
-use Rattle.agreement.specs.declared.Proposals.{Proposals}
+use Rattle.agreement.proofs.MaskLaws.{adding-same, adding-other, removing-other}
 use Rattle.agreement.proofs.FilingLaws.{fit-not-unfit, few-blocks}
 
 -- by what was found: two differed before; there is one, and this is the same, or another; there is none
@@ -86,10 +84,10 @@ module _ (g : Agreement) (names counts : List ℕ) (base : ℕ) (s : List ℕ) (
       ≡ keep sameLog (keptLog names counts base g i) (logIn s))
       (λ q. rw (no, q) (rw q refl))
       (λ q v e. rw (no, q, v, e) (rw (q, v) refl))
-      (λ q v e. rw (no, q, v, e) (rw (getD-set-same (g .equivocators) i true false (omega (arith, f .few, z .equivocators))) refl))
+      (λ q v e. rw (no, q, v, e) (rw (adding-same (g .marks .equivocators) i) refl))
       (λ q v. rw (no, q, v) (rw (
         q,
-        getD-set-same (g .voters) i true false (omega (arith, f .few, z .voters)),
+        adding-same (g .marks .voters) i,
         getD-set-same (g .lengths) i (countIn s) 0 (omega (arith, f .few, z .lengths)),
         filed-back names counts base s i f,
       ) refl))
@@ -105,12 +103,12 @@ module _ (g : Agreement) (names counts : List ℕ) (base : ℕ) (s : List ℕ) (
       ≡ keptLog names counts base g j)
       (λ q. rw (no, q) refl)
       (λ q v e. rw (no, q, v, e) refl)
-      (λ q v e. rw (no, q, v, e, getD-set-other (g .equivocators) i j true false d, getD-set-other (g .voters) i j false false d) refl)
+      (λ q v e. rw (no, q, v, e, adding-other (g .marks .equivocators) i j d, removing-other (g .marks .voters) i j d) refl)
       (λ q v. rw (
         no,
         q,
         v,
-        getD-set-other (g .voters) i j true false d,
+        adding-other (g .marks .voters) i j d,
         getD-set-other (g .lengths) i j (countIn s) 0 d,
         filed-apart names counts base s i f j (getD (g .lengths) j 0) d h,
       ) refl)
@@ -121,10 +119,10 @@ unfolding fileOf
 file-rest g names counts base s i =
     cases (SameRest g (fileOf g names counts base s i .agreement))
     (unfit names counts base s i || isEquivocator g i) (isVoter g i) (sameLog (logIn s) (filedLog names counts base (g .lengths) i))
-    (λ q. rw q (record { view = refl; one = refl; two = refl; hasone = refl; hastwo = refl }))
-    (λ q v e. rw (q, v, e) (record { view = refl; one = refl; two = refl; hasone = refl; hastwo = refl }))
-    (λ q v e. rw (q, v, e) (record { view = refl; one = refl; two = refl; hasone = refl; hastwo = refl }))
-    (λ q v. rw (q, v) (record { view = refl; one = refl; two = refl; hasone = refl; hastwo = refl }))
+    (λ q. rw q (record { view = refl; one = refl; two = refl }))
+    (λ q v e. rw (q, v, e) (record { view = refl; one = refl; two = refl }))
+    (λ q v e. rw (q, v, e) (record { view = refl; one = refl; two = refl }))
+    (λ q v. rw (q, v) (record { view = refl; one = refl; two = refl }))
 
 -- ---- what a grade reads, by what is kept
 
@@ -166,9 +164,9 @@ module _ (g : Proposals) (names counts : List ℕ) (base : ℕ) (s : List ℕ) (
   abbrev same : Bool
   same = sameLog (logIn s) (filedLog names counts base (g .lengths) i) && eqb priority (getD (g .priorities) i 0)
 
-  found : (A : Type 0) → (member (g .aside) i ≡ true → A) → (member (g .aside) i ≡ false → member (g .filed) i ≡ true → same ≡ true → A)
-      → (member (g .aside) i ≡ false → member (g .filed) i ≡ true → same ≡ false → A) → (member (g .aside) i ≡ false → member (g .filed) i ≡ false → A) → A
-  found A = cases A (member (g .aside) i) (member (g .filed) i) same
+  found : (A : Type 0) → (member (g .marks .aside) i ≡ true → A) → (member (g .marks .aside) i ≡ false → member (g .marks .filed) i ≡ true → same ≡ true → A)
+      → (member (g .marks .aside) i ≡ false → member (g .marks .filed) i ≡ true → same ≡ false → A) → (member (g .marks .aside) i ≡ false → member (g .marks .filed) i ≡ false → A) → A
+  found A = cases A (member (g .marks .aside) i) (member (g .marks .filed) i) same
 
   fine : unfit names counts base s i ≡ false
   fine = fit-not-unfit names counts base s i f
@@ -189,10 +187,10 @@ module _ (g : Proposals) (names counts : List ℕ) (base : ℕ) (s : List ℕ) (
       ≡ keep sameProposal (keptProposal names counts base g i) sent)
       (λ q. rw (fine, q) (rw q refl))
       (λ q v e. rw (fine, q, v, e) (rw (q, v) refl))
-      (λ q v e. rw (fine, q, v, e) (rw (getD-set-same (g .aside) i true false (omega (arith, f .few, z .aside))) refl))
+      (λ q v e. rw (fine, q, v, e) (rw (adding-same (g .marks .aside) i) refl))
       (λ q v. rw (fine, q, v) (rw (
         q,
-        getD-set-same (g .filed) i true false (omega (arith, f .few, z .filed)),
+        adding-same (g .marks .filed) i,
         getD-set-same (g .lengths) i (countIn s) 0 (omega (arith, f .few, z .lengths)),
         getD-set-same (g .priorities) i priority 0 (omega (arith, f .few, z .priorities)),
         filed-back names counts base s i f,
@@ -208,12 +206,12 @@ module _ (g : Proposals) (names counts : List ℕ) (base : ℕ) (s : List ℕ) (
       ≡ keptProposal names counts base g j)
       (λ q. rw (fine, q) refl)
       (λ q v e. rw (fine, q, v, e) refl)
-      (λ q v e. rw (fine, q, v, e, getD-set-other (g .aside) i j true false d) refl)
+      (λ q v e. rw (fine, q, v, e, adding-other (g .marks .aside) i j d) refl)
       (λ q v. rw (
         fine,
         q,
         v,
-        getD-set-other (g .filed) i j true false d,
+        adding-other (g .marks .filed) i j d,
         getD-set-other (g .lengths) i j (countIn s) 0 d,
         getD-set-other (g .priorities) i j priority 0 d,
         filed-apart names counts base s i f j (getD (g .lengths) j 0) d h,

@@ -1,6 +1,8 @@
 -- Laws of the definitions in specs/, and the theorems. The layers above cite these, and not the definitions' text.
 -- Sets of senders, grades with their four properties, and the longest log with a grade; worked examples:
 pub mod SetLaws
+pub mod MaskLaws
+pub mod LimitLaws
 pub mod ReadingLaws
 pub mod LongestLaws
 pub mod Starred
@@ -15,6 +17,7 @@ pub mod KeptOfLaws
 pub mod RecordLaws
 pub mod GradeSources
 pub mod SenderLaws
+pub mod EmptyLaws
 -- What the proofs of functions cite. Filing:
 pub mod FilingLaws
 pub mod FileCases

@@ -5,8 +5,7 @@ use native.Mathlib.Nat.{le-refl}
 use native.Mathlib.Omega.{arith}
 use mathlib.Core.Path.{_≡_, refl, sym, ap, subst, _∙_, fun-ext}
 use mathlib.Core.Logic.{inl, inr, _↔_}
-use mathlib.Core.List.{List, [], _∷_, _++_, List·Memᴰ, List·Memᴰ·head, List·Memᴰ·tail, List·Memᴰ·cases-cons, List·Memᴰ·not-nil}
-use mathlib.Core.List.{Memᴰ·append-left, Memᴰ·append-right}
+use mathlib.Core.List.{List, [], _∷_, _++_, List·Memᴰ, List·Memᴰ·head, List·Memᴰ·tail, List·Memᴰ·cases-cons, List·Memᴰ·not-nil, Memᴰ·append-left, Memᴰ·append-right}
 use mathlib.Core.Option.{Option, some, none, Option·none-ne-some}
 use mathlib.Core.Bool.{Bool, true, false, false≢true}
 use lib.Dec.{ltb}
@@ -18,8 +17,7 @@ use Rattle.message.proofs.TestLaws.{either}
 use Rattle.message.proofs.LogLaws.{prefix-antisym, prefix-shorter}
 use Rattle.agreement.specs.Sets.{Inside}
 use Rattle.agreement.specs.Reading.{Reading, maySupport, Grade, hasGrade, LongestLog, Is, under, prefixes, candidates, longer, longestOf, longest}
-use Rattle.agreement.specs.Record.{readingOf}
-use Rattle.agreement.specs.declared.Agreement.{Agreement}
+use Rattle.agreement.specs.Record.{Agreement, readingOf}
 use Rattle.agreement.proofs.ReadingLaws.{may-iff, grade-iff, grade-prefix, grade-supporter, Alike, hasGrade-cong, Beyond, hasGrade-cut, uniqueness}
 
 -- there is one right answer
@@ -205,6 +203,6 @@ longest-cut n d w R b =
 
 -- ---- in every record, everyone who may support is heard: it is in V, and so in S
 
-pub record-heard : (n : ℕ) (names counts : List ℕ) (base : ℕ) (g : Agreement) (among : List Bool)
+pub record-heard : (n : ℕ) (names counts : List ℕ) (base : ℕ) (g : Agreement) (among : ℕ)
     → Inside n (maySupport (readingOf names counts base g among)) (readingOf names counts base g among .heard)
 record-heard n names counts base g among i l e = rw (may-iff (readingOf names counts base g among) i .0 e .0) refl

@@ -1,12 +1,12 @@
--- One block more, or a run of them: which logs start so, and the array of the followers whose log does. Assumes nothing.
-use Prim.Native.Nat.{ℕ, zero, suc, _+_, _≤_, _<_}
+-- One block more, or a run of them: which logs start so, and the set of the followers whose log does. Assumes nothing.
+use Prim.Native.Nat.{ℕ, zero, suc, _+_, _/_, _%_, _^_, _≤_, _<_}
 use native.Mathlib.Omega.{arith}
 use mathlib.Core.Bool.{Bool, true, false, _&&_, and-assoc, false≢true}
 use mathlib.Core.List.{List}
-use mathlib.Core.Path.{_≡_, refl, sym, ap, _∙_}
+use mathlib.Core.Path.{_≡_, refl, sym, ap, subst, _∙_}
 use borrow.Author.Tests.{ltb-true, ltb-false, lt-ltb, le-ltb, leb-true, le-leb, lt-leb}
-use lib.Dec.{ltb, leb}
-use lib.ListN.{getD, set, replicate}
+use lib.Dec.{ltb, leb, eqb}
+use lib.ListN.{getD}
 use Rattle.message.specs.Limits.{mostBlocks}
 use Rattle.message.specs.Numbers.{part}
 use Rattle.message.specs.Logs.{sameBlock, isPrefix, inStep}
@@ -15,13 +15,10 @@ use Rattle.message.proofs.TestLaws.{either}
 use Rattle.message.proofs.LogLaws.{prefix-length, isPrefix-iff}
 use Rattle.message.proofs.ListedLaws.{length-at}
 use Rattle.agreement.specs.Limits.{mostSenders, placeOf}
-use Rattle.agreement.specs.Sets.{weigh, count, member}
-use Rattle.agreement.specs.Steps.{SetOf, nextBlock, narrowed, runLength, alike, narrowedBy, Far}
-use Rattle.agreement.proofs.CountLaws.{Filling, set-next}
-
-pub and-true : (t : Bool) → (t && true) ≡ t
-and-true true = refl
-and-true false = refl
+use Rattle.agreement.specs.Sets.{weigh, member, adding}
+use Rattle.agreement.specs.Steps.{SetOf, Walks, nextBlock, narrowed, runLength, alike, narrowedBy, Far, Next, Run}
+use Rattle.agreement.proofs.MaskLaws.{and-true}
+use Rattle.agreement.proofs.CountLaws.{walk-start, walk-next, walk-below, walk-room, set-none, pass-skip, pass-yes, pass-no, pass-end}
 
 -- to have more than l is to have l + 1
 over : (l m y : ℕ) → m ≡ l + 1 → ltb l y ≡ leb m y
@@ -33,14 +30,14 @@ ltb-suc l y =
     either (ltb l y) (λ t. t ∙ sym (lt-ltb (suc l) (suc y) (omega (arith, ltb-true l y t)))) (λ t. t ∙ sym (le-ltb (suc l) (suc y) (omega (arith, ltb-false l y t))))
 
 module _ (names counts : List ℕ) where
+  -- the blocks at places a and b are the same
+  abbrev same : ℕ → ℕ → Bool
+  same a b = sameBlock (blockAt names counts a) (blockAt names counts b)
+
   -- the blocks after l blocks at two places that the code found
   pub next-same : (base l i j p q : ℕ) (r : Bool) → p ≡ placeOf base i → q ≡ placeOf base j → r ≡ sameBlock (blockAt names counts (p + l)) (blockAt names counts (q + l))
       → r ≡ sameBlock (nextBlock names counts base l i) (nextBlock names counts base l j)
   next-same base l i j p q r d e f = f ∙ (λ k. sameBlock (blockAt names counts (d k + l)) (blockAt names counts (e k + l)))
-
-  -- the blocks at places a and b are the same
-  abbrev same : ℕ → ℕ → Bool
-  same a b = sameBlock (blockAt names counts a) (blockAt names counts b)
 
   longer : (a b l y : ℕ) → isPrefix (logAt names counts a (suc l)) (logAt names counts b y)
       ≡ (isPrefix (logAt names counts a l) (logAt names counts b y) && (ltb l y && same (a + l) (b + l)))
@@ -122,31 +119,130 @@ module _ (names counts : List ℕ) where
       ∙ join z (leb (l + k) y) (leb (l + suc k) y) (alike names counts (a + l) (b + l) k) (same (a + l + k) (b + l + k))
       (λ h. le-leb (l + k) y (let x = leb-true (l + suc k) y h in omega arith))
 
-  -- p and q are the places of senders c and j, as the code found them
-  pub run-next : (base : ℕ) (lengths : List ℕ) (followers : List Bool) (l c j p q : ℕ) (next : List Bool) (r x : Bool)
-      → Filling (narrowedBy names counts base lengths followers l c runLength) j next → j < mostSenders
-      → p ≡ placeOf base c → q ≡ placeOf base j → r ≡ alike names counts (p + l) (q + l) runLength
-      → x ≡ (member followers j && (leb (l + runLength) (getD lengths j 0) && r))
-      → Filling (narrowedBy names counts base lengths followers l c runLength) (j + 1) (set next j x)
-  run-next base lengths followers l c j p q next r x h k d e s f =
-      set-next (narrowedBy names counts base lengths followers l c runLength) next x j h k
-      (f ∙ ap (λ (t : Bool). member followers j && (leb (l + runLength) (getD lengths j 0) && t)) (s ∙ (λ i. alike names counts (d i + l) (e i + l) runLength)))
+  pub far-run : (base : ℕ) (lengths : List ℕ) (followers l c far : ℕ) → l + runLength ≤ mostBlocks
+      → SetOf (narrowedBy names counts base lengths followers l c runLength) mostSenders far → Far names counts base lengths followers l c far
+  far-run base lengths followers l c far n s = record { some = λ h. (n, s) }
 
-  module _ (base : ℕ) (lengths : List ℕ) (followers : List Bool) (l c : ℕ) where
-    pub far-run : (far : List Bool) → l + runLength ≤ mostBlocks → SetOf (narrowedBy names counts base lengths followers l c runLength) mostSenders far
-        → Far names counts base lengths followers l c far
-    far-run far n s = record { some = λ h. (n, s) }
+  pub far-none : (base : ℕ) (lengths : List ℕ) (followers l c : ℕ) → Far names counts base lengths followers l c 0
+  unfolding weigh member
+  far-none base lengths followers l c = record { some = λ h. absurd (omega arith) }
 
-    pub far-none : Far names counts base lengths followers l c (replicate mostSenders false)
-    unfolding weigh
-    far-none = record { some = λ h. absurd (omega arith) }
+-- ---- the loop over the followers: those whose log goes on with the block at c's place, of those below i
 
-  -- ---- the loop
+pub record Narrowing (names counts lengths : List ℕ) (followers base l c name count i left next : ℕ) : Type 0 where
+  pub walk : Walks followers i left
+  pub room : i ≤ mostSenders
+  pub sameName : name ≡ getD names (placeOf base c + l) 0
+  pub sameCount : count ≡ getD counts (placeOf base c + l) 0
+  pub set : SetOf (narrowed names counts base lengths followers l (nextBlock names counts base l c)) i next
 
-  pub narrow-next : (base : ℕ) (lengths : List ℕ) (followers : List Bool) (l c j : ℕ) (next : List Bool) (r x : Bool)
-      → Filling (narrowed names counts base lengths followers l (nextBlock names counts base l c)) j next → j < mostSenders
-      → r ≡ sameBlock (nextBlock names counts base l c) (nextBlock names counts base l j) → x ≡ (member followers j && (ltb l (getD lengths j 0) && r))
-      → Filling (narrowed names counts base lengths followers l (nextBlock names counts base l c)) (j + 1) (set next j x)
-  narrow-next base lengths followers l c j next r x h k s f =
-      set-next (narrowed names counts base lengths followers l (nextBlock names counts base l c)) next x j h k
-      (f ∙ ap (λ (t : Bool). member followers j && (ltb l (getD lengths j 0) && t)) s)
+module _ (names counts lengths : List ℕ) (followers base l c : ℕ) where
+  abbrev goes : ℕ → Bool
+  goes j = ltb l (getD lengths j 0) && sameBlock (nextBlock names counts base l c) (nextBlock names counts base l j)
+
+  pub narrow-none : followers < 2 ^ mostSenders
+      → Narrowing names counts lengths followers base l c (getD names (placeOf base c + l) 0) (getD counts (placeOf base c + l) 0) 0 followers 0
+  narrow-none h = record {
+    walk = walk-start followers h;
+    room = omega arith;
+    sameName = refl;
+    sameCount = refl;
+    set = set-none (narrowed names counts base lengths followers l (nextBlock names counts base l c));
+  }
+
+  module _ (name count i left next : ℕ) (n : Narrowing names counts lengths followers base l c name count i left next) where
+    -- the next turn, with these senders
+    turn : 0 < left → (more : ℕ) → SetOf (narrowed names counts base lengths followers l (nextBlock names counts base l c)) (i + 1) more
+        → Narrowing names counts lengths followers base l c name count (i + 1) (left / 2) more
+    turn p more s = record {
+      walk = walk-next followers i left (n .walk);
+      room = walk-room followers i left (n .walk) p;
+      sameName = n .sameName;
+      sameCount = n .sameCount;
+      set = s;
+    }
+
+    pub narrow-skip : 0 < left → eqb (left % 2) 1 ≡ false → Narrowing names counts lengths followers base l c name count (i + 1) (left / 2) next
+    narrow-skip p e = turn p next (pass-skip followers goes next i left (n .set) (n .walk) e)
+
+    module _ (p : 0 < left) (e : eqb (left % 2) 1 ≡ true) (r : Bool)
+        (f : r ≡ (ltb l (getD lengths i 0) && (eqb name (getD names (placeOf base i + l) 0) && eqb count (getD counts (placeOf base i + l) 0)))) where
+      found : goes i ≡ r
+      found =
+          let s = n .sameName in
+          let u = n .sameCount in
+          sym (f ∙ (λ x. ltb l (getD lengths i 0) && (eqb (s x) (getD names (placeOf base i + l) 0) && eqb (u x) (getD counts (placeOf base i + l) 0))))
+
+      pub narrow-yes : (more : ℕ) → r ≡ true → more ≡ adding next i → Narrowing names counts lengths followers base l c name count (i + 1) (left / 2) more
+      narrow-yes more t v =
+          turn p more
+          (subst (λ (z : ℕ). SetOf (narrowed names counts base lengths followers l (nextBlock names counts base l c)) (i + 1) z) (sym v)
+          (pass-yes followers goes next i left (n .set) (n .walk) e (found ∙ t)))
+
+      pub narrow-no : r ≡ false → Narrowing names counts lengths followers base l c name count (i + 1) (left / 2) next
+      narrow-no t = turn p next (pass-no followers goes next i left (n .set) (n .walk) e (found ∙ t))
+
+    pub narrow-end : left ≤ 0 → SetOf (narrowed names counts base lengths followers l (nextBlock names counts base l c)) mostSenders next
+    narrow-end z = pass-end followers goes next i left (n .set) (n .walk) z (n .room)
+
+-- ---- the same with the run of blocks at place a, which is c's
+
+pub record Running (names counts lengths : List ℕ) (followers base l c a i left next : ℕ) : Type 0 where
+  pub walk : Walks followers i left
+  pub room : i ≤ mostSenders
+  pub place : a ≡ placeOf base c + l
+  pub set : SetOf (narrowedBy names counts base lengths followers l c runLength) i next
+
+module _ (names counts lengths : List ℕ) (followers base l c : ℕ) where
+  abbrev runs : ℕ → Bool
+  runs j = leb (l + runLength) (getD lengths j 0) && alike names counts (placeOf base c + l) (placeOf base j + l) runLength
+
+  pub run-none : followers < 2 ^ mostSenders → Running names counts lengths followers base l c (placeOf base c + l) 0 followers 0
+  run-none h = record {
+    walk = walk-start followers h;
+    room = omega arith;
+    place = refl;
+    set = set-none (narrowedBy names counts base lengths followers l c runLength);
+  }
+
+  module _ (a i left next : ℕ) (n : Running names counts lengths followers base l c a i left next) where
+    run-turn : 0 < left → (more : ℕ) → SetOf (narrowedBy names counts base lengths followers l c runLength) (i + 1) more
+        → Running names counts lengths followers base l c a (i + 1) (left / 2) more
+    run-turn p more s =
+        record { walk = walk-next followers i left (n .walk); room = walk-room followers i left (n .walk) p; place = n .place; set = s }
+
+    pub run-skip : 0 < left → eqb (left % 2) 1 ≡ false → Running names counts lengths followers base l c a (i + 1) (left / 2) next
+    run-skip p e = run-turn p next (pass-skip followers runs next i left (n .set) (n .walk) e)
+
+    -- what a turn asks of the lists
+    pub run-asks : Next names counts base l → l + runLength ≤ mostBlocks → c < mostSenders → 0 < left → Run names counts base l a i
+    run-asks x few k p =
+        let y = x .inNames in
+        let z = x .inCounts in
+        let e = n .place in
+        record {
+          inNames = y;
+          inCounts = z;
+          few = few;
+          fromNames = omega arith;
+          fromCounts = omega arith;
+          sender = walk-below followers i left (n .walk) p;
+        }
+
+    module _ (p : 0 < left) (e : eqb (left % 2) 1 ≡ true) (r : Bool)
+        (f : r ≡ (leb (l + runLength) (getD lengths i 0) && alike names counts a (placeOf base i + l) runLength)) where
+      run-found : runs i ≡ r
+      run-found =
+          sym (f ∙ ap (λ (z : ℕ). leb (l + runLength) (getD lengths i 0) && alike names counts z (placeOf base i + l) runLength) (n .place))
+
+      pub run-yes : (more : ℕ) → r ≡ true → more ≡ adding next i → Running names counts lengths followers base l c a (i + 1) (left / 2) more
+      run-yes more t v =
+          run-turn p more
+          (subst (λ (z : ℕ). SetOf (narrowedBy names counts base lengths followers l c runLength) (i + 1) z) (sym v)
+          (pass-yes followers runs next i left (n .set) (n .walk) e (run-found ∙ t)))
+
+      pub run-no : r ≡ false → Running names counts lengths followers base l c a (i + 1) (left / 2) next
+      run-no t = run-turn p next (pass-no followers runs next i left (n .set) (n .walk) e (run-found ∙ t))
+
+    pub run-end : left ≤ 0 → SetOf (narrowedBy names counts base lengths followers l c runLength) mostSenders next
+    run-end z = pass-end followers runs next i left (n .set) (n .walk) z (n .room)

@@ -16,20 +16,19 @@ use Rattle.message.specs.Store.{logAt, within, prefixAt}
 use Rattle.message.proofs.TestLaws.{either, or-false}
 use Rattle.message.proofs.Inside.{prefix-inside}
 use Rattle.agreement.specs.Limits.{mostSenders, span, placeOf}
-use Rattle.agreement.specs.Sets.{ones, count, member}
+use Rattle.agreement.specs.Sets.{ones, count, member, isYes}
 use Rattle.agreement.specs.Reading.{longest}
-use Rattle.agreement.specs.Record.{isVoter, isEquivocator, filedLog, lacksRoom, overlong, readingOf}
-use Rattle.agreement.specs.Grades.{gradeAmong, gradeZero, gradeOne, gradeTwo}
-use Rattle.agreement.specs.Kept.{Kept, nothing, only, differing, singleOf, heardOf, keptLog, Proposed, keptProposal}
+use Rattle.agreement.specs.Record.{Agreement, isVoter, isEquivocator, filedLog, lacksRoom, overlong, readingOf}
+use Rattle.agreement.specs.Grades.{gradeAmong, gradeBy, gradeOf}
+use Rattle.agreement.specs.Kept.{snapshotIn, Kept, nothing, only, differing, singleOf, heardOf, keptLog, Proposed, keptProposal}
+use Rattle.agreement.specs.declared.Snapshot.{Snapshot}
 use Rattle.agreement.specs.Heard.{proposedLog, onlyLog, readingFrom, gradeNow, gradeWith, mayChoose, priorityOf, orLock, voteAmong}
-use Rattle.agreement.specs.Proposals.{fits, ifFits, bestOf, choiceOf}
-use Rattle.agreement.specs.declared.Agreement.{Agreement}
-use Rattle.agreement.specs.declared.Proposals.{Proposals}
+use Rattle.agreement.specs.Proposals.{Proposals, fits, ifFits, bestOf, choiceOf}
 use Rattle.agreement.proofs.SetLaws.{weigh-some}
 use Rattle.agreement.proofs.ReadingLaws.{Alike, Beyond}
 use Rattle.agreement.proofs.LongestLaws.{longest-cong, longest-cut}
 use Rattle.agreement.proofs.FilingLaws.{within-room}
-use Rattle.agreement.proofs.ChoiceLaws.{best-is}
+use Rattle.agreement.proofs.ChoiceLaws.{best-cut, best-is}
 use Rattle.agreement.proofs.KeptLaws.{kept-sender, kept-voter, kept-only}
 
 -- ---- an agreement of n senders, within the limits of its record
@@ -62,7 +61,7 @@ module _ (n : ℕ) (names counts : List ℕ) (base : ℕ) (g : Agreement) (w : W
       go true e h = h refl
       go false e h = refl
 
-  beyond : (among : List Bool) → Beyond n (mostSenders - n) (readingOf names counts base g among)
+  beyond : (among : ℕ) → Beyond n (mostSenders - n) (readingOf names counts base g among)
   beyond among =
       let f = w .few in
       record {
@@ -70,7 +69,7 @@ module _ (n : ℕ) (names counts : List ℕ) (base : ℕ) (g : Agreement) (w : W
         single = λ i h l. w .voters i h (omega arith);
       }
 
-  alike : (among : List Bool) (snap : ℕ → Bool) → ((i : ℕ) → i < n → member among i ≡ snap i)
+  alike : (among : ℕ) (snap : ℕ → Bool) → ((i : ℕ) → i < n → member among i ≡ snap i)
       → Alike n (readingOf names counts base g among) (readingFrom (keptLog names counts base g) snap)
   alike among snap s =
       let f = w .few in
@@ -82,7 +81,7 @@ module _ (n : ℕ) (names counts : List ℕ) (base : ℕ) (g : Agreement) (w : W
       }
 
   module _ (room : lacksRoom names counts base ≡ false) where
-    grade-among : (among : List Bool) (snap : ℕ → Bool) → ((i : ℕ) → i < n → member among i ≡ snap i)
+    grade-among : (among : ℕ) (snap : ℕ → Bool) → ((i : ℕ) → i < n → member among i ≡ snap i)
         → gradeAmong names counts base g among ≡ longest n ones (readingFrom (keptLog names counts base g) snap)
     unfolding gradeAmong
     grade-among among snap s =
@@ -94,24 +93,21 @@ module _ (n : ℕ) (names counts : List ℕ) (base : ℕ) (g : Agreement) (w : W
         ∙ longest-cong n ones (alike among snap s))
 
     -- grade 0 uses no snapshot
-    pub grade-zero : gradeZero names counts base g ≡ gradeNow n ones (keptLog names counts base g)
+    pub grade-zero : gradeOf names counts base g 0 ≡ gradeNow n ones (keptLog names counts base g)
     unfolding gradeNow
     grade-zero =
         let f = w .few in
-        grade-among (g .voters) (λ (i : ℕ). singleOf (keptLog names counts base g i)) (λ i l. kept-voter names counts base g i (not-both i (omega arith)))
+        grade-among (g .marks .voters) (λ (i : ℕ). singleOf (keptLog names counts base g i)) (λ i l. kept-voter names counts base g i (not-both i (omega arith)))
 
-    grade-with : (has : Bool) (among : List Bool)
+    grade-with : (has : Bool) (among : ℕ)
         → pick has (gradeAmong names counts base g among) none ≡ gradeWith n ones (keptLog names counts base g) (pick has (some (member among)) none)
     unfolding gradeWith
     grade-with true among = grade-among among (member among) (λ i l. refl)
     grade-with false among = refl
 
-    -- grades 1 and 2 are there only with their snapshots
-    pub grade-one : gradeOne names counts base g ≡ gradeWith n ones (keptLog names counts base g) (pick (g .hastwo) (some (member (g .two))) none)
-    grade-one = grade-with (g .hastwo) (g .two)
-
-    pub grade-two : gradeTwo names counts base g ≡ gradeWith n ones (keptLog names counts base g) (pick (g .hasone) (some (member (g .one))) none)
-    grade-two = grade-with (g .hasone) (g .one)
+    -- any other is there only with its snapshot
+    pub grade-by : (s : Snapshot) → gradeBy names counts base g s ≡ gradeWith n ones (keptLog names counts base g) (snapshotIn s)
+    grade-by s = grade-with (isYes (s .taken)) (s .senders)
 
 -- ---- a grade depends on what is kept of the senders below n, and on the snapshot below n
 
@@ -136,16 +132,6 @@ module _ (n : ℕ) (w : ℕ → ℕ) (logs logs′ : ℕ → Kept Log) (h : (i :
   gradeWith-cong (some snap) = longest-cong n w (reading-alike snap snap (λ i l. refl))
 
 -- ---- the best sender, by who passes below n and by the priorities of those that pass
-
--- senders from n on change nothing where none of them passes
-best-cut : (n d : ℕ) (p : ℕ → Bool) (q : ℕ → ℕ) → ((i : ℕ) → n ≤ i → i < n + d → p i ≡ false) → bestOf (n + d) p q ≡ bestOf n p q
-unfolding bestOf
-best-cut n zero p q h = let s : n + 0 ≡ n = omega arith in ap (λ (k : ℕ). bestOf k p q) s
-best-cut n (suc d) p q h =
-    let s : n + suc d ≡ suc (n + d) = omega arith in
-    let e = h (n + d) (omega arith) (omega arith) in
-    let r = best-cut n d p q (λ i a b. h i a (omega arith)) in
-    ap (λ (k : ℕ). bestOf k p q) s ∙ (λ i. ifFits (e i) q (bestOf (n + d) p q) (n + d)) ∙ r
 
 module _ (p p′ : ℕ → Bool) (q q′ : ℕ → ℕ) where
   -- one sender more, where its priority and that of the best so far are the same
@@ -182,8 +168,8 @@ vote-cut n d kept L h = ap (orLock kept L) (best-cut n d (may L kept) (priority 
 
 -- of a record that has nothing of senders at n or above, the vote among 32 is that among n
 pub vote-kept : (n : ℕ) (names counts : List ℕ) (base : ℕ) (g : Proposals) (L : Log) → n ≤ mostSenders
-    → ((i : ℕ) → n ≤ i → i < mostSenders → member (g .filed) i ≡ false)
-    → ((i : ℕ) → n ≤ i → i < mostSenders → member (g .aside) i ≡ false)
+    → ((i : ℕ) → n ≤ i → i < mostSenders → member (g .marks .filed) i ≡ false)
+    → ((i : ℕ) → n ≤ i → i < mostSenders → member (g .marks .aside) i ≡ false)
     → voteAmong mostSenders (keptProposal names counts base g) L ≡ voteAmong n (keptProposal names counts base g) L
 unfolding keptProposal
 vote-kept n names counts base g L f filed aside =
@@ -210,7 +196,7 @@ module _ (names counts : List ℕ) (base : ℕ) (g : Proposals) (a k : ℕ) (roo
 
   fits-kept : (i : ℕ) → i < mostSenders → fits names counts base g a k i ≡ mayChoose (logAt names counts a k) (keptProposal names counts base g i)
   unfolding keptProposal
-  fits-kept i l = rw (prefix-filed i l) (go (member (g .filed) i) (member (g .aside) i))
+  fits-kept i l = rw (prefix-filed i l) (go (member (g .marks .filed) i) (member (g .marks .aside) i))
     where
       go : (f s : Bool) → (f && (not s && isPrefix (logAt names counts a k) (filed i .log)))
           ≡ mayChoose (logAt names counts a k) (pick s differing (pick f (only (filed i)) nothing))
@@ -221,7 +207,7 @@ module _ (names counts : List ℕ) (base : ℕ) (g : Proposals) (a k : ℕ) (roo
 
   priority-kept : (i : ℕ) → fits names counts base g a k i ≡ true → getD (g .priorities) i 0 ≡ priorityOf (keptProposal names counts base g i)
   unfolding keptProposal
-  priority-kept i e = go (member (g .filed) i) (member (g .aside) i) (prefixAt names counts a k (placeOf base i) (getD (g .lengths) i 0)) e
+  priority-kept i e = go (member (g .marks .filed) i) (member (g .marks .aside) i) (prefixAt names counts a k (placeOf base i) (getD (g .lengths) i 0)) e
     where
       go : (f s t : Bool) → (f && (not s && t)) ≡ true → filed i .priority ≡ priorityOf (pick s differing (pick f (only (filed i)) nothing))
       go true true t q = absurd (false≢true q)
@@ -249,7 +235,7 @@ pub fits-log : (names counts : List ℕ) (base : ℕ) (g : Proposals) (a k i : �
     → proposedLog (keptProposal names counts base g i) ≡ filedLog names counts base (g .lengths) i
 unfolding keptProposal
 fits-log names counts base g a k i e =
-    go (member (g .filed) i) (member (g .aside) i) (prefixAt names counts a k (placeOf base i) (getD (g .lengths) i 0)) e
+    go (member (g .marks .filed) i) (member (g .marks .aside) i) (prefixAt names counts a k (placeOf base i) (getD (g .lengths) i 0)) e
   where
     kept : Proposed
     kept = record { log = filedLog names counts base (g .lengths) i; priority = getD (g .priorities) i 0 }

@@ -10,11 +10,12 @@ use Rattle.message.specs.Logs.{Log, isPrefix, sameLog, inStep, namesOf, countsO
 use Rattle.message.specs.Message.{logMessage, proposalMessage, messageBytes, bytesOf}
 use Rattle.message.specs.Store.{logAt, prefixAt}
 use Rattle.agreement.specs.Limits.{span}
-use Rattle.agreement.specs.Sets.{weigh}
+use Rattle.agreement.specs.Sets.{weigh, member, adding, removing}
 use Rattle.agreement.specs.Reading.{maySupport, supports, hasGrade, under, prefixes, candidates, longer, longestOf, longest}
-use Rattle.agreement.specs.Record.{emptyAgreement, filedLog, overlong, withOne, withTwo}
+use Rattle.agreement.specs.Record.{emptyAgreement, filedLog, overlong, withSnapshot}
+use Rattle.agreement.specs.Record as record-of
 use Rattle.agreement.specs.Filing.{Word, first, second, known, Filing, fileOf}
-use Rattle.agreement.specs.Grades.{gradeAmong, gradeZero, gradeOne, gradeTwo}
+use Rattle.agreement.specs.Grades.{gradeAmong, gradeOf}
 use Rattle.agreement.specs.Proposals.{emptyProposals, ProposalFiling, fileProposalOf, bestOf, choiceOf}
 
 -- ---- what happens in a row
@@ -43,8 +44,8 @@ pub data Row : Type 0 where
 -- Nothing is filed at first; the lists have 2,048 places.
 abbrev step : Filing → Step → Filing
 step t (log s L) = fileOf (t .agreement) (t .names) (t .counts) 0 (bytesOf (logMessage (record { sender = s; view = 0; log = L }))) s
-step t one = record { word = t .word; agreement = withOne (t .agreement); names = t .names; counts = t .counts }
-step t two = record { word = t .word; agreement = withTwo (t .agreement); names = t .names; counts = t .counts }
+step t one = record { word = t .word; agreement = withSnapshot record-of.one (t .agreement); names = t .names; counts = t .counts }
+step t two = record { word = t .word; agreement = withSnapshot record-of.two (t .agreement); names = t .names; counts = t .counts }
 
 abbrev steps : Filing → List Step → Filing
 steps t [] = t
@@ -87,9 +88,9 @@ abbrev voteIn : Log → ProposalFiling → Option ℕ → Finding
 voteIn lock t o = vote o (votedLog lock t o)
 
 abbrev pub worked : Row → Finding
-worked (grade0 ss o) = let t = after ss in grade (gradeZero (t .names) (t .counts) 0 (t .agreement))
-worked (grade1 ss o) = let t = after ss in grade (gradeOne (t .names) (t .counts) 0 (t .agreement))
-worked (grade2 ss o) = let t = after ss in grade (gradeTwo (t .names) (t .counts) 0 (t .agreement))
+worked (grade0 ss o) = let t = after ss in grade (gradeOf (t .names) (t .counts) 0 (t .agreement) 0)
+worked (grade1 ss o) = let t = after ss in grade (gradeOf (t .names) (t .counts) 0 (t .agreement) 1)
+worked (grade2 ss o) = let t = after ss in grade (gradeOf (t .names) (t .counts) 0 (t .agreement) 2)
 worked (answers ss w) = word (after ss .word)
 worked (answersProposal os w) = word (afterProposals [] os .word)
 worked (votes lock os i L) = let t = afterProposals lock os in voteIn lock t (choiceOf (t .names) (t .counts) 0 (t .proposals) span (length lock))
@@ -243,6 +244,6 @@ rows =
 -- In each row, what is worked out is what is stated.
 pub rows-hold : map worked rows ≡ map stated rows
 unfolding
-    part put numberAt numbersAt bytesFor bytesForEach isPrefix sameLog inStep namesOf countsOf messageBytes bytesOf logAt prefixAt weigh maySupport
+    part put numberAt numbersAt bytesFor bytesForEach isPrefix sameLog inStep namesOf countsOf messageBytes bytesOf logAt prefixAt weigh member adding removing maySupport
     supports hasGrade under prefixes candidates longer longestOf longest overlong fileOf gradeAmong fileProposalOf bestOf choiceOf
 rows-hold = refl

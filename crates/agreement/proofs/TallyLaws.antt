@@ -15,15 +15,14 @@ use Rattle.message.proofs.Inside.{prefix-inside}
 use Rattle.agreement.specs.Limits.{mostSenders, placeOf}
 use Rattle.agreement.specs.Sets.{ones, count, member}
 use Rattle.agreement.specs.Reading.{Reading, maySupport, supports, Grade}
-use Rattle.agreement.specs.Record.{isVoter, isSender, lacksRoom, overlong, readingOf}
+use Rattle.agreement.specs.Record.{Agreement, isVoter, isSender, lacksRoom, overlong, readingOf}
 use Rattle.agreement.specs.Tally.{supportersOf, supportersAt}
 use Rattle.agreement.specs.Steps.{Readable, backs}
-use Rattle.agreement.specs.declared.Agreement.{Agreement}
 use Rattle.agreement.proofs.SetLaws.{weigh-cong}
 use Rattle.agreement.proofs.FilingLaws.{within-room}
 use Rattle.agreement.proofs.FindLaws.{barred, find-asks}
 
-module _ (names counts : List ℕ) (base : ℕ) (g : Agreement) (among : List Bool) where
+module _ (names counts : List ℕ) (base : ℕ) (g : Agreement) (among : ℕ) where
   abbrev R : Reading
   R = readingOf names counts base g among
 
@@ -41,10 +40,10 @@ module _ (names counts : List ℕ) (base : ℕ) (g : Agreement) (among : List Bo
 
   -- ---- the code's test of one sender, from what it found
 
-  pub backs-is : (a k j p : ℕ) (r : Bool) → p ≡ placeOf base j → r ≡ prefixAt names counts a k p (getD (g .lengths) j 0)
-      → ((getD (g .voters) j false && getD among j false) && r) ≡ backs names counts base g among a k j
+  pub backs-is : (a k j y x : ℕ) (r v m : Bool) → x ≡ placeOf base j → y ≡ getD (g .lengths) j 0 → r ≡ prefixAt names counts a k x y
+      → v ≡ isVoter g j → m ≡ member among j → ((v && m) && r) ≡ backs names counts base g among a k j
   unfolding backs
-  backs-is a k j p r q e = rw (e, q)
+  backs-is a k j y x r v m d s e p q = rw (e, d, s, p, q)
 
   -- ---- what it counts
 
@@ -55,11 +54,11 @@ module _ (names counts : List ℕ) (base : ℕ) (g : Agreement) (among : List Bo
   pub tally-placed : (i k : ℕ) → (leb mostSenders i || ltb mostBlocks k) ≡ false → i < mostSenders
   tally-placed i k e = leb-false mostSenders i (or-false (leb mostSenders i) (ltb mostBlocks k) e .0)
 
-  module _ (i k : ℕ) (placed : (leb mostSenders i || ltb mostBlocks k) ≡ false) (v : Bool) (x : ℕ) (e : v ≡ lacksRoom names counts base)
-      (f : x ≡ count mostSenders (λ (j : ℕ). ltb mostBlocks (getD (g .lengths) j 0))) where
-    pub tally-barred : (v || ltb 0 x) ≡ true → 0 ≡ supportersAt names counts base g among i k
+  module _ (i k : ℕ) (placed : (leb mostSenders i || ltb mostBlocks k) ≡ false) (v x : Bool) (e : v ≡ lacksRoom names counts base)
+      (f : x ≡ ltb 0 (count mostSenders (λ (j : ℕ). ltb mostBlocks (getD (g .lengths) j 0)))) where
+    pub tally-barred : (v || x) ≡ true → 0 ≡ supportersAt names counts base g among i k
     unfolding supportersAt supportersOf
-    tally-barred t = rw (placed, barred names counts base g among v x e f ∙ t)
+    tally-barred t = rw (placed, barred names counts base (g .lengths) v x e f ∙ t)
 
     abbrev L : Log
     L = logAt names counts (placeOf base i) k
@@ -73,11 +72,11 @@ module _ (names counts : List ℕ) (base : ℕ) (g : Agreement) (among : List Bo
         (within-room names counts base i k (ok .inNames) (ok .inCounts) (leb-false mostSenders i (p .0)) (ltb-false mostBlocks k (p .1)))
         (within-room names counts base j (getD (g .lengths) j 0) (ok .inNames) (ok .inCounts) h (ok .short j h)))
 
-    pub tally-counted : (p n : ℕ) → (v || ltb 0 x) ≡ false → p ≡ placeOf base i → n ≡ count mostSenders (backs names counts base g among p k)
+    pub tally-counted : (p n : ℕ) → (v || x) ≡ false → p ≡ placeOf base i → n ≡ count mostSenders (backs names counts base g among p k)
         → n ≡ supportersAt names counts base g among i k
     unfolding supportersAt supportersOf
     tally-counted p n t q d =
         let c = d ∙ ap (λ (a : ℕ). count mostSenders (backs names counts base g among a k)) q in
-        let ok = find-asks names counts base g among v x e f t in
-        rw (placed, barred names counts base g among v x e f ∙ t)
+        let ok = find-asks names counts base (g .lengths) v x e f t in
+        rw (placed, barred names counts base (g .lengths) v x e f ∙ t)
         (c ∙ weigh-cong mostSenders ones (backs names counts base g among (placeOf base i) k) (supports R L) (supports-same ok))

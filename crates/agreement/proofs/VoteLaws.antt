@@ -1,16 +1,18 @@
 -- The majority vote, turn by turn: a block that more than half of the followers have is the winner's. Assumes nothing.
-use Prim.Native.Nat.{ℕ, suc, _+_, _-_, _*_, _≤_, _<_}
+use Prim.Native.Nat.{ℕ, suc, _+_, _-_, _*_, _%_, _≤_, _<_}
 use native.Mathlib.Omega.{arith}
 use mathlib.Core.Bool.{Bool, true, false, _&&_, not, false≢true}
 use mathlib.Core.List.{List}
 use mathlib.Core.Logic.{inl, inr}
 use mathlib.Core.Path.{_≡_, refl, sym, ap, _∙_}
+use lib.Dec.{eqb}
 use Rattle.message.specs.Logs.{Block, sameBlock}
 use Rattle.message.proofs.TestLaws.{either}
 use Rattle.message.proofs.LogLaws.{sameBlock-eq, sameBlock-refl}
 use Rattle.agreement.specs.Limits.{mostSenders}
 use Rattle.agreement.specs.Sets.{share, weigh, count, member}
-use Rattle.agreement.specs.Steps.{nextBlock, holding, Leads, Voted}
+use Rattle.agreement.specs.Steps.{Walks, nextBlock, holding, Leads, Voted}
+use Rattle.agreement.proofs.CountLaws.{count-cut, walk-on, walk-end}
 
 -- ---- one turn in numbers: n of m followers have a block, a says that it is the candidate's, b that it is the next follower's
 
@@ -38,7 +40,7 @@ count-step : (p : ℕ → Bool) (j : ℕ) → count (j + 1) p ≡ share (p j) 1 
 unfolding weigh
 count-step p j = let s : j + 1 ≡ suc j = omega arith in ap (λ (k : ℕ). count k p) s
 
-module _ (names counts : List ℕ) (base : ℕ) (followers : List Bool) (l who : ℕ) where
+module _ (names counts : List ℕ) (base : ℕ) (followers : ℕ) (l who : ℕ) where
   abbrev block : ℕ → Block
   block = nextBlock names counts base l
 
@@ -50,10 +52,11 @@ module _ (names counts : List ℕ) (base : ℕ) (followers : List Bool) (l who :
   unfolding weigh
   lead-none = record { most = λ x. either (sameBlock x (block who)) (λ e. rw e (omega arith)) (λ e. rw e (omega arith)); from = inl refl }
 
-  module _ (j best weight : ℕ) (h : Leads names counts base followers l who j best weight) where
-    pub lead-skip : member followers j ≡ false → Leads names counts base followers l who (j + 1) best weight
-    lead-skip f = record {
+  module _ (j best weight : ℕ) (h : Leads names counts base followers l who j best weight) (left : ℕ) (walk : Walks followers j left) where
+    pub lead-skip : eqb (left % 2) 1 ≡ false → Leads names counts base followers l who (j + 1) best weight
+    lead-skip off = record {
       most = λ x.
+          let f = sym (walk-on followers j left walk) ∙ off in
           let p = count-step (holding names counts base followers l x) j ∙ ap (λ (t : Bool). share (t && sameBlock x (block j)) 1 + having x j) f in
           let q = count-step (member followers) j ∙ ap (λ (t : Bool). share t 1 + count j (member followers)) f in
           let m = h .most x in
@@ -61,7 +64,10 @@ module _ (names counts : List ℕ) (base : ℕ) (followers : List Bool) (l who :
       from = h .from;
     }
 
-    module _ (f : member followers j ≡ true) where
+    module _ (on : eqb (left % 2) 1 ≡ true) where
+      f : member followers j ≡ true
+      f = sym (walk-on followers j left walk) ∙ on
+
       holds : (x : Block) → having x (j + 1) ≡ share (sameBlock x (block j)) 1 + having x j
       holds x = count-step (holding names counts base followers l x) j ∙ ap (λ (t : Bool). share (t && sameBlock x (block j)) 1 + having x j) f
 
@@ -109,14 +115,14 @@ module _ (names counts : List ℕ) (base : ℕ) (followers : List Bool) (l who :
           from = h .from;
         }
 
-    pub voted : j ≤ mostSenders → mostSenders ≤ j → best < mostSenders → Voted names counts base followers l who best
+    pub voted : j ≤ mostSenders → left ≤ 0 → best < mostSenders → Voted names counts base followers l who best
     voted a b c = record {
       place = c;
       led = λ x q. either (sameBlock x (block best)) (λ y. y) (λ n.
-          let s : j ≡ mostSenders = omega arith in
           let m = h .most x in
-          let u = ap (λ (k : ℕ). having x k) s in
-          let v = ap (λ (k : ℕ). count k (member followers)) s in
+          let none = walk-end followers j left walk b in
+          let u = count-cut (holding names counts base followers l x) j a (λ i g. ap (λ (t : Bool). t && sameBlock x (block i)) (none i g)) in
+          let v = count-cut (member followers) j a none in
           let d = ap (λ (t : Bool). share t weight) n in
           absurd (omega arith));
       from = h .from;

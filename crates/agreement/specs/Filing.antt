@@ -11,8 +11,7 @@ use Rattle.message.specs.Logs.{sameLog, namesOf, countsOf}
 use Rattle.message.specs.Message.{countIn, logIn}
 use Rattle.message.specs.Store.{holdsLog}
 use Rattle.agreement.specs.Limits.{mostSenders, span, placeOf}
-use Rattle.agreement.specs.Record.{isVoter, isEquivocator, filedLog, lacksRoom, withFirst, withSecond}
-use Rattle.agreement.specs.declared.Agreement.{Agreement}
+use Rattle.agreement.specs.Record.{Agreement, isVoter, isEquivocator, filedLog, lacksRoom, withFirst, withSecond}
 use Rattle.agreement.specs.declared.Filed.{Filed}
 use Rattle.agreement.specs.declared.Answer.{Answer}
 use Rattle.agreement.specs.declared.Answer.the-variants.{First, Second, Known}
@@ -71,8 +70,9 @@ fileOf g names counts base s i =
     (pick (isVoter g i) (againOf g names counts base s i) (firstOf g names counts base s i))
 
 -- A call answered and left record and lists so.
-pub record Files (t : Filing) (r : Filed) (names counts : List ℕ) : Type 0 where
+pub record Files (t : Filing) (r : Filed) (lengths names counts : List ℕ) : Type 0 where
   pub answered : wordOf (r .answer) ≡ t .word
-  pub agreement : r .agreement ≡ t .agreement
+  pub marks : r .marks ≡ t .agreement .marks
+  pub lengthList : lengths ≡ t .agreement .lengths
   pub nameList : names ≡ t .names
   pub countList : counts ≡ t .counts

@@ -1,6 +1,6 @@
 -- The grades of an agreement (document 01, "Counting in one agreement"): which snapshot each uses, and the log it gives. Assumes nothing.
-use Prim.Native.Nat.{ℕ, _≤_, _<_}
-use mathlib.Core.Bool.{Bool, _||_}
+use Prim.Native.Nat.{ℕ, zero, suc, _≤_, _<_}
+use mathlib.Core.Bool.{_||_}
 use mathlib.Core.List.{List}
 use mathlib.Core.Option.{Option, some, none}
 use mathlib.Core.Path.{_≡_}
@@ -9,30 +9,32 @@ use Rattle.message.specs.Choice.{pick}
 use Rattle.message.specs.Logs.{Log}
 use Rattle.message.specs.Store.{logAt}
 use Rattle.agreement.specs.Limits.{mostSenders, placeOf}
-use Rattle.agreement.specs.Sets.{ones}
+use Rattle.agreement.specs.Sets.{ones, isYes}
 use Rattle.agreement.specs.Reading.{longest}
-use Rattle.agreement.specs.Record.{lacksRoom, overlong, readingOf}
-use Rattle.agreement.specs.declared.Agreement.{Agreement}
+use Rattle.agreement.specs.Record.{Agreement, lacksRoom, overlong, readingOf, one, two, snapshotAt, snapshotNow}
+use Rattle.agreement.specs.declared.Snapshot.{Snapshot}
+use Rattle.agreement.specs.declared.Marks.{Marks}
 use Rattle.agreement.specs.declared.Grade.{Grade}
 use Rattle.agreement.specs.declared.Grade.the-variants.{Longest, Nothing}
 
 -- The longest log with the grade, supporters being counted among those of the snapshot. A record with a length over 64, or lists without room
 -- for its logs, has none: the bench refuses both (9, 8) before it asks.
-unfoldable pub gradeAmong : List ℕ → List ℕ → ℕ → Agreement → List Bool → Option Log
+unfoldable pub gradeAmong : List ℕ → List ℕ → ℕ → Agreement → ℕ → Option Log
 gradeAmong names counts base g among =
     pick (lacksRoom names counts base || overlong (g .lengths)) none (longest mostSenders ones (readingOf names counts base g among))
 
--- Grade 0 uses no snapshot: all of V may support.
-abbrev pub gradeZero : List ℕ → List ℕ → ℕ → Agreement → Option Log
-gradeZero names counts base g = gradeAmong names counts base g (g .voters)
+-- "Only with" the snapshot: none where it was not taken.
+abbrev pub gradeBy : List ℕ → List ℕ → ℕ → Agreement → Snapshot → Option Log
+gradeBy names counts base g s = pick (isYes (s .taken)) (gradeAmong names counts base g (s .senders)) none
 
--- Grade 1, "only with snapshot two".
-abbrev pub gradeOne : List ℕ → List ℕ → ℕ → Agreement → Option Log
-gradeOne names counts base g = pick (g .hastwo) (gradeAmong names counts base g (g .two)) none
+-- Which snapshot serves which grade: grade 0 none, so that all of V may support, grade 1 snapshot two, grade 2 snapshot one.
+abbrev pub snapshotFor : ℕ → Marks → Snapshot
+snapshotFor zero m = snapshotNow m
+snapshotFor (suc zero) m = snapshotAt two m
+snapshotFor (suc (suc k)) m = snapshotAt one m
 
--- Grade 2, "only with snapshot one".
-abbrev pub gradeTwo : List ℕ → List ℕ → ℕ → Agreement → Option Log
-gradeTwo names counts base g = pick (g .hasone) (gradeAmong names counts base g (g .one)) none
+abbrev pub gradeOf : List ℕ → List ℕ → ℕ → Agreement → ℕ → Option Log
+gradeOf names counts base g k = gradeBy names counts base g (snapshotFor k (g .marks))
 
 -- the code's answer, as the log it stands for: the k blocks at sender i's place
 abbrev pub logOf : List ℕ → List ℕ → ℕ → Grade → Option Log

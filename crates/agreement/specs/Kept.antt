@@ -1,19 +1,20 @@
 -- What is kept of one sender's messages of a kind in a view, and the answer to one more (document 01, "Receive"): one rule for LOGs and
 -- PROPOSALs, tied to the record by KeptLaws. Assumes nothing.
-use Prim.Native.Nat.{ℕ}
+use Prim.Native.Nat.{ℕ, _^_, _<_}
 use mathlib.Core.Bool.{Bool, true, false, _&&_}
 use mathlib.Core.List.{List}
+use mathlib.Core.Option.{Option, some, none}
 use mathlib.Core.Path.{_≡_}
 use lib.Dec.{eqb}
 use lib.ListN.{length, getD}
 use Rattle.message.specs.Choice.{pick}
 use Rattle.message.specs.Logs.{Log, sameLog}
 use Rattle.agreement.specs.Limits.{mostSenders}
-use Rattle.agreement.specs.Sets.{member}
-use Rattle.agreement.specs.Record.{isVoter, isEquivocator, filedLog}
+use Rattle.agreement.specs.Sets.{member, isYes}
+use Rattle.agreement.specs.Record.{Agreement, isVoter, isEquivocator, filedLog}
 use Rattle.agreement.specs.Filing.{Word, first, second, known}
-use Rattle.agreement.specs.declared.Agreement.{Agreement}
-use Rattle.agreement.specs.declared.Proposals.{Proposals}
+use Rattle.agreement.specs.Proposals.{Proposals}
+use Rattle.agreement.specs.declared.Snapshot.{Snapshot}
 
 -- no message yet; one; or that two differed, and then the sender's later ones do not matter
 pub data Kept (A : Type 0) : Type 0 where
@@ -62,27 +63,29 @@ sameProposal a b = sameLog (a .log) (b .log) && eqb (a .priority) (b .priority)
 -- of sender i's PROPOSALs
 unfoldable pub keptProposal : List ℕ → List ℕ → ℕ → Proposals → ℕ → Kept Proposed
 keptProposal names counts base g i =
-    pick (member (g .aside) i) differing
-    (pick (member (g .filed) i) (only (record { log = filedLog names counts base (g .lengths) i; priority = getD (g .priorities) i 0 })) nothing)
+    pick (member (g .marks .aside) i) differing
+    (pick (member (g .marks .filed) i) (only (record { log = filedLog names counts base (g .lengths) i; priority = getD (g .priorities) i 0 })) nothing)
 
--- ---- a record's arrays have a place for each of 32 senders, as the code's types say
+-- a snapshot as a record keeps it
+abbrev pub snapshotIn : Snapshot → Option (ℕ → Bool)
+snapshotIn s = pick (isYes (s .taken)) (some (member (s .senders))) none
+
+-- ---- a record's arrays have a place for each of 32 senders, and its sets no other sender, as the code's types say
 
 pub record Sized (g : Agreement) : Type 0 where
   pub lengths : length (g .lengths) ≡ mostSenders
-  pub voters : length (g .voters) ≡ mostSenders
-  pub equivocators : length (g .equivocators) ≡ mostSenders
+  pub voters : g .marks .voters < 2 ^ mostSenders
+  pub equivocators : g .marks .equivocators < 2 ^ mostSenders
 
 pub record SizedProposals (g : Proposals) : Type 0 where
   pub lengths : length (g .lengths) ≡ mostSenders
   pub priorities : length (g .priorities) ≡ mostSenders
-  pub filed : length (g .filed) ≡ mostSenders
-  pub aside : length (g .aside) ≡ mostSenders
+  pub filed : g .marks .filed < 2 ^ mostSenders
+  pub aside : g .marks .aside < 2 ^ mostSenders
 
 -- ---- all but what is kept of the senders is the same: the view and the snapshots
 
 pub record SameRest (g h : Agreement) : Type 0 where
-  pub view : h .view ≡ g .view
-  pub one : h .one ≡ g .one
-  pub two : h .two ≡ g .two
-  pub hasone : h .hasone ≡ g .hasone
-  pub hastwo : h .hastwo ≡ g .hastwo
+  pub view : h .marks .view ≡ g .marks .view
+  pub one : h .marks .one ≡ g .marks .one
+  pub two : h .marks .two ≡ g .marks .two

@@ -13,45 +13,47 @@ use Rattle.message.specs.Logs.{sameLog, namesOf, countsOf}
 use Rattle.message.specs.Message.{countIn, logIn}
 use Rattle.message.specs.Store.{prefixAt}
 use Rattle.agreement.specs.Limits.{mostSenders, placeOf}
-use Rattle.agreement.specs.Sets.{member}
+use Rattle.agreement.specs.Sets.{member, adding}
 use Rattle.agreement.specs.Record.{filedLog, lacksRoom}
 use Rattle.agreement.specs.Filing.{Word, first, second, known, wordOf, unfit}
-use Rattle.agreement.specs.declared.Proposals.{Proposals}
+use Rattle.agreement.specs.declared.Shown.{Shown}
 use Rattle.agreement.specs.declared.FiledProposal.{FiledProposal}
 use Rattle.agreement.specs.declared.Choice.{Choice}
 use Rattle.agreement.specs.declared.Choice.the-variants.{Proposal, Lock}
 
+-- the code's numbers, and beside them the blocks and the priority of each sender's proposal
+pub record Proposals : Type 0 where
+  pub marks : Shown
+  pub lengths : List ℕ
+  pub priorities : List ℕ
+
+abbrev pub proposalsFrom : Shown → List ℕ → List ℕ → Proposals
+proposalsFrom m lengths priorities = record { marks = m; lengths = lengths; priorities = priorities }
+
 -- nothing filed
+abbrev pub emptyShown : ℕ → Shown
+emptyShown v = record { view = v; filed = 0; aside = 0 }
+
 abbrev pub emptyProposals : ℕ → Proposals
-emptyProposals v = record {
-  view = v;
-  lengths = replicate mostSenders 0;
-  priorities = replicate mostSenders 0;
-  filed = replicate mostSenders false;
-  aside = replicate mostSenders false;
-}
+emptyProposals v = proposalsFrom (emptyShown v) (replicate mostSenders 0) (replicate mostSenders 0)
 
 -- ---- filing
 
+-- a proposal of sender i is filed
+abbrev pub shownOnce : Shown → ℕ → Shown
+shownOnce m i = record { view = m .view; filed = adding (m .filed) i; aside = m .aside }
+
+-- two of sender i differed
+abbrev pub shownTwice : Shown → ℕ → Shown
+shownTwice m i = record { view = m .view; filed = m .filed; aside = adding (m .aside) i }
+
 -- sender i's first proposal, of k blocks
 abbrev pub withProposal : Proposals → ℕ → ℕ → ℕ → Proposals
-withProposal g i k priority = record {
-  view = g .view;
-  lengths = set (g .lengths) i k;
-  priorities = set (g .priorities) i priority;
-  filed = set (g .filed) i true;
-  aside = g .aside;
-}
+withProposal g i k priority = proposalsFrom (shownOnce (g .marks) i) (set (g .lengths) i k) (set (g .priorities) i priority)
 
 -- sender i's proposals are set aside
 abbrev pub withAside : Proposals → ℕ → Proposals
-withAside g i = record {
-  view = g .view;
-  lengths = g .lengths;
-  priorities = g .priorities;
-  filed = g .filed;
-  aside = set (g .aside) i true;
-}
+withAside g i = proposalsFrom (shownTwice (g .marks) i) (g .lengths) (g .priorities)
 
 -- What filing gives: the word, the proposals, and both lists.
 pub record ProposalFiling : Type 0 where
@@ -83,13 +85,15 @@ firstProposalOf g names counts base s i priority = record {
 -- The PROPOSAL s from sender i, of this priority, among the proposals whose logs stand from `base` on: filed as a LOG is.
 unfoldable pub fileProposalOf : Proposals → List ℕ → List ℕ → ℕ → List ℕ → ℕ → ℕ → ProposalFiling
 fileProposalOf g names counts base s i priority =
-    pick (unfit names counts base s i || member (g .aside) i) (unwrittenProposal known g names counts)
-    (pick (member (g .filed) i) (proposalAgainOf g names counts base s i priority) (firstProposalOf g names counts base s i priority))
+    pick (unfit names counts base s i || member (g .marks .aside) i) (unwrittenProposal known g names counts)
+    (pick (member (g .marks .filed) i) (proposalAgainOf g names counts base s i priority) (firstProposalOf g names counts base s i priority))
 
 -- A call answered and left record and lists so.
-pub record FilesProposal (t : ProposalFiling) (r : FiledProposal) (names counts : List ℕ) : Type 0 where
+pub record FilesProposal (t : ProposalFiling) (r : FiledProposal) (lengths priorities names counts : List ℕ) : Type 0 where
   pub answered : wordOf (r .answer) ≡ t .word
-  pub proposals : r .proposals ≡ t .proposals
+  pub marks : r .marks ≡ t .proposals .marks
+  pub lengthList : lengths ≡ t .proposals .lengths
+  pub priorityList : priorities ≡ t .proposals .priorities
   pub nameList : names ≡ t .names
   pub countList : counts ≡ t .counts
 
@@ -98,7 +102,7 @@ pub record FilesProposal (t : ProposalFiling) (r : FiledProposal) (names counts 
 -- Sender i's proposal may be voted for: it "has the lock as a prefix and isn't set aside". The lock is the log of k blocks at place a.
 abbrev pub fits : List ℕ → List ℕ → ℕ → Proposals → ℕ → ℕ → ℕ → Bool
 fits names counts base g a k i =
-    member (g .filed) i && (not (member (g .aside) i) && prefixAt names counts a k (placeOf base i) (getD (g .lengths) i 0))
+    member (g .marks .filed) i && (not (member (g .marks .aside) i) && prefixAt names counts a k (placeOf base i) (getD (g .lengths) i 0))
 
 -- the better of two senders by priority, the first of them on a tie
 abbrev pub better : (ℕ → ℕ) → Option ℕ → ℕ → Option ℕ

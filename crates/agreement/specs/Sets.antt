@@ -1,9 +1,9 @@
 -- Sets of senders, as tests of a sender's number, and how many are in a set. Assumes nothing.
-use Prim.Native.Nat.{ℕ, zero, suc, _+_, _<_}
+use Prim.Native.Nat.{ℕ, zero, suc, _+_, _-_, _/_, _%_, _^_, _<_}
 use mathlib.Core.Path.{_≡_}
-use mathlib.Core.Bool.{Bool, true, false}
-use mathlib.Core.List.{List}
-use lib.ListN.{getD}
+use mathlib.Core.Bool.{Bool, true, false, not}
+use lib.Dec.{eqb}
+use Rattle.message.specs.Choice.{pick}
 
 -- what one sender adds: its weight where it is in the set
 abbrev pub share : Bool → ℕ → ℕ
@@ -27,6 +27,22 @@ count n p = weigh n ones p
 abbrev pub Inside : ℕ → (ℕ → Bool) → (ℕ → Bool) → Type 0
 Inside n p q = (i : ℕ) → i < n → p i ≡ true → q i ≡ true
 
--- a set as a record keeps it: one truth value for each sender
-abbrev pub member : List Bool → ℕ → Bool
-member set i = getD set i false
+-- ---- a set as a record keeps it: a number, its digits in twos one for each sender
+
+-- digit i is 1: sender i is in the set
+unfoldable pub member : ℕ → ℕ → Bool
+member set i = eqb (set / 2 ^ i % 2) 1
+
+-- the set and sender i
+unfoldable pub adding : ℕ → ℕ → ℕ
+unfolding member
+adding set i = pick (member set i) set (set + 2 ^ i)
+
+-- the set without sender i
+unfoldable pub removing : ℕ → ℕ → ℕ
+unfolding member
+removing set i = pick (member set i) (set - 2 ^ i) set
+
+-- ---- a flag as a record keeps it: zero no, any other yes
+abbrev pub isYes : ℕ → Bool
+isYes flag = not (eqb flag 0)

@@ -1,44 +1,36 @@
 // Reading a grade: the longest log that more than half of all senders support. The majority is followed from block to block: its
-// followers are those whose log starts so. One pass over 32 senders serves four blocks where the majority stays with the sender
+// followers are those whose log starts so. One pass over the followers serves eight blocks where the majority stays with the sender
 // walked along with, and one block where it leaves.
 ghost use mathlib.Core.Path.{_≡_};
 ghost use mathlib.Core.Bool.{_&&_};
 ghost use Prim.Native.Nat.{_+_, _≤_, _<_};
-ghost use lib.ListN.{length};
+ghost use lib.Dec.{eqb, leb, ltb};
+ghost use lib.ListN.{length, getD};
 ghost use Rattle.message.specs.Limits.{mostBlocks};
 ghost use Rattle.message.specs.Logs.{sameBlock};
 ghost use Rattle.message.specs.Store.{blockAt};
-ghost use Rattle.agreement.specs.Limits.{mostSenders};
-ghost use Rattle.agreement.specs.Sets.{ones, member};
+ghost use Rattle.agreement.specs.Limits.{mostSenders, placeOf};
+ghost use Rattle.agreement.specs.Sets.{ones};
 ghost use Rattle.agreement.specs.Reading.{longest};
-ghost use Rattle.agreement.specs.Record.{readingOf};
-ghost use Rattle.agreement.specs.Grades.{Gives, gradeAmong, gradeZero, gradeOne, gradeTwo};
-ghost use Rattle.agreement.specs.Steps.{Readable, SetOf, Next, nextBlock, narrowed, runLength, alike, narrowedBy, Far, Voted, Climbing, Climbed};
-use super::Agreement;
+ghost use Rattle.agreement.specs.Record.{agreementFrom, readingOf};
+ghost use Rattle.agreement.specs.Grades.{Gives, gradeAmong, snapshotFor, gradeOf};
+ghost use Rattle.agreement.specs.Steps.{Readable, SetOf, Next, Run, nextBlock, narrowed, runLength, alike, narrowedBy, Far, Voted, Climbing, Climbed};
 use super::Grade;
-use super::MOST_SENDERS;
+use super::Marks;
+use super::Snapshot;
 use super::room::lacks_room;
 use super::room::place_of;
-use super::tally::count_in;
-use super::tally::count_over;
+use super::room::wide;
+use super::sets::in_both;
+use super::sets::size;
+use super::sets::with_sender;
+use super::snapshot_now;
+use super::tally::is_over;
 use super::tally::senders;
 use message::MOST_BLOCKS;
 
 // How many blocks are looked at together where the majority may go on.
-const RUN: usize = 4;
-
-// The senders that may support: those in both sets.
-fn in_both(voters: [bool; 32], among: [bool; 32]) -> [bool; 32]
-    ensures { λ r. ⌜ SetOf (λ i. member voters i && member among i) mostSenders r ⌝ }
-{
-    let mut both: [bool; 32] = [false; 32];
-    let mut i = 0;
-    while i < MOST_SENDERS {
-        both[i] = voters[i] & among[i];
-        i += 1;
-    }
-    both
-}
+const RUN: usize = 8;
 
 // The block at a is the block at b.
 fn same_block(names: &[u64], counts: &[u16], a: usize, b: usize) -> bool
@@ -56,25 +48,53 @@ fn same_next(names: &[u64], counts: &[u16], base: u32, l: usize, i: usize, j: us
     same_block(names, counts, place_of(base, i) + l, place_of(base, j) + l)
 }
 
+// Sender j's log goes on after l blocks with this block.
+fn goes_on(
+    names: &[u64],
+    counts: &[u16],
+    lengths: &[u8; 32],
+    base: u32,
+    l: usize,
+    name: u64,
+    count: u16,
+    j: usize,
+) -> bool
+    requires { ⌜ (Next (now names) (now counts) base l) × (j < mostSenders) ⌝ }
+    ensures { λ r. ⌜ r ≡ (ltb l (getD (now (lengths .entry)) j 0) && (eqb name (getD (now (names .entry)) (placeOf base j + l) 0) && eqb count (getD (now (counts .entry)) (placeOf base j + l) 0))) ⌝ }
+{
+    let b = base as usize + MOST_BLOCKS * j + l;
+    (l < wide(lengths[j])) & ((name == names[b]) & (count == counts[b]))
+}
+
 // Of the followers, those whose log goes on after l blocks with the block that stands there at sender c's place.
 fn narrow(
     names: &[u64],
     counts: &[u16],
-    lengths: [u8; 32],
-    followers: [bool; 32],
+    lengths: &[u8; 32],
+    followers: u32,
     base: u32,
     l: usize,
     c: usize,
-) -> [bool; 32]
+) -> u32
     requires { ⌜ (Next (now names) (now counts) base l) × (c < mostSenders) ⌝ }
-    ensures { λ r. ⌜ SetOf (narrowed (now (names .entry)) (now (counts .entry)) base lengths followers l (nextBlock (now (names .entry)) (now (counts .entry)) base l c)) mostSenders r ⌝ }
+    ensures { λ r. ⌜ SetOf (narrowed (now (names .entry)) (now (counts .entry)) base (now (lengths .entry)) followers l (nextBlock (now (names .entry)) (now (counts .entry)) base l c)) mostSenders r ⌝ }
 {
-    let mut next: [bool; 32] = [false; 32];
-    let mut j = 0;
-    while j < MOST_SENDERS {
-        let same = same_next(names, counts, base, l, c, j);
-        next[j] = followers[j] & ((l < lengths[j] as usize) & same);
-        j += 1;
+    let a = base as usize + MOST_BLOCKS * c + l;
+    let name = names[a];
+    let count = counts[a];
+    let mut next = 0u32;
+    let mut left = followers;
+    let mut i = 0;
+    while 0 < left {
+        let j = i;
+        let follows = left % 2 == 1;
+        left = left / 2;
+        i += 1;
+        if follows {
+            if goes_on(names, counts, lengths, base, l, name, count, j) {
+                next = with_sender(next, j);
+            }
+        }
     }
     next
 }
@@ -93,26 +113,51 @@ fn same_run(names: &[u64], counts: &[u16], a: usize, b: usize) -> bool
     same
 }
 
+// Sender j's log goes on after l blocks with the run of blocks at a.
+fn runs_on(
+    names: &[u64],
+    counts: &[u16],
+    lengths: &[u8; 32],
+    base: u32,
+    l: usize,
+    a: usize,
+    j: usize,
+) -> bool
+    requires { ⌜ Run (now names) (now counts) base l a j ⌝ }
+    ensures { λ r. ⌜ r ≡ (leb (l + runLength) (getD (now (lengths .entry)) j 0) && alike (now (names .entry)) (now (counts .entry)) a (placeOf base j + l) runLength) ⌝ }
+{
+    let b = base as usize + MOST_BLOCKS * j + l;
+    let blocks = wide(lengths[j]);
+    (l + RUN <= blocks) & same_run(names, counts, a, b)
+}
+
 // Of the followers, those whose log goes on after l blocks with the run of blocks that stands there at sender c's place.
 fn narrow_run(
     names: &[u64],
     counts: &[u16],
-    lengths: [u8; 32],
-    followers: [bool; 32],
+    lengths: &[u8; 32],
+    followers: u32,
     base: u32,
     l: usize,
     c: usize,
-) -> [bool; 32]
+) -> u32
     requires { ⌜ (Next (now names) (now counts) base l) × ((l + runLength ≤ mostBlocks) × (c < mostSenders)) ⌝ }
-    ensures { λ r. ⌜ SetOf (narrowedBy (now (names .entry)) (now (counts .entry)) base lengths followers l c runLength) mostSenders r ⌝ }
+    ensures { λ r. ⌜ SetOf (narrowedBy (now (names .entry)) (now (counts .entry)) base (now (lengths .entry)) followers l c runLength) mostSenders r ⌝ }
 {
-    let a = place_of(base, c) + l;
-    let mut next: [bool; 32] = [false; 32];
-    let mut j = 0;
-    while j < MOST_SENDERS {
-        let b = place_of(base, j) + l;
-        next[j] = followers[j] & ((l + RUN <= lengths[j] as usize) & same_run(names, counts, a, b));
-        j += 1;
+    let a = base as usize + MOST_BLOCKS * c + l;
+    let mut next = 0u32;
+    let mut left = followers;
+    let mut i = 0;
+    while 0 < left {
+        let j = i;
+        let follows = left % 2 == 1;
+        left = left / 2;
+        i += 1;
+        if follows {
+            if runs_on(names, counts, lengths, base, l, a, j) {
+                next = with_sender(next, j);
+            }
+        }
     }
     next
 }
@@ -121,41 +166,37 @@ fn narrow_run(
 fn narrow_far(
     names: &[u64],
     counts: &[u16],
-    lengths: [u8; 32],
-    followers: [bool; 32],
+    lengths: &[u8; 32],
+    followers: u32,
     base: u32,
     l: usize,
     c: usize,
-) -> [bool; 32]
+) -> u32
     requires { ⌜ (Next (now names) (now counts) base l) × (c < mostSenders) ⌝ }
-    ensures { λ r. ⌜ Far (now (names .entry)) (now (counts .entry)) base lengths followers l c r ⌝ }
+    ensures { λ r. ⌜ Far (now (names .entry)) (now (counts .entry)) base (now (lengths .entry)) followers l c r ⌝ }
 {
     if l % RUN == 0 {
         return narrow_run(names, counts, lengths, followers, base, l, c);
     }
-    [false; 32]
+    0
 }
 
 // A sender that has, after l blocks, the block that more than half of the followers have there, if there is one: a majority
 // vote (Boyer and Moore), in one pass.
-fn vote(
-    names: &[u64],
-    counts: &[u16],
-    followers: [bool; 32],
-    base: u32,
-    l: usize,
-    who: usize,
-) -> usize
+fn vote(names: &[u64], counts: &[u16], followers: u32, base: u32, l: usize, who: usize) -> usize
     requires { ⌜ (Next (now names) (now counts) base l) × (who < mostSenders) ⌝ }
     ensures { λ r. ⌜ Voted (now (names .entry)) (now (counts .entry)) base followers l who r ⌝ }
 {
     let mut best = who;
     let mut weight: usize = 0;
+    let mut left = followers;
     let mut j = 0;
-    while j < MOST_SENDERS {
+    while 0 < left {
         let sender = j;
+        let follows = left % 2 == 1;
+        left = left / 2;
         j += 1;
-        if followers[sender] {
+        if follows {
             if 0 < weight {
                 if same_next(names, counts, base, l, best, sender) {
                     weight += 1;
@@ -176,31 +217,31 @@ fn vote(
 fn climb(
     names: &[u64],
     counts: &[u16],
-    lengths: [u8; 32],
-    may: [bool; 32],
+    lengths: &[u8; 32],
+    may: u32,
     base: u32,
     all: usize,
 ) -> Grade
-    requires { ⌜ Climbing (now names) (now counts) base lengths may all ⌝ }
-    ensures { λ r. ⌜ Climbed (now (names .entry)) (now (counts .entry)) base lengths may all r ⌝ }
+    requires { ⌜ Climbing (now names) (now counts) base (now lengths) may all ⌝ }
+    ensures { λ r. ⌜ Climbed (now (names .entry)) (now (counts .entry)) base (now (lengths .entry)) may all r ⌝ }
 {
     let mut followers = may;
     let mut who = 0;
     let mut l = 0;
     while l < MOST_BLOCKS {
         let far = narrow_far(names, counts, lengths, followers, base, l, who);
-        if all < 2 * count_in(far) {
+        if all < 2 * size(far) {
             followers = far;
             l += RUN;
         } else {
             let near = narrow(names, counts, lengths, followers, base, l, who);
-            if all < 2 * count_in(near) {
+            if all < 2 * size(near) {
                 followers = near;
                 l += 1;
             } else {
                 let c = vote(names, counts, followers, base, l, who);
                 let next = narrow(names, counts, lengths, followers, base, l, c);
-                if all < 2 * count_in(next) {
+                if all < 2 * size(next) {
                     followers = next;
                     who = c;
                     l += 1;
@@ -214,57 +255,62 @@ fn climb(
 }
 
 // The longest log with the grade. The empty log has it where more than half of S may support: if it has not, no log has.
-fn find(names: &[u64], counts: &[u16], g: Agreement, among: [bool; 32], base: u32) -> Grade
-    requires { ⌜ Readable (now names) (now counts) base (g .lengths) ⌝ }
-    ensures { λ r. ⌜ Gives (longest mostSenders ones (readingOf (now (names .entry)) (now (counts .entry)) base g among)) (now (names .entry)) (now (counts .entry)) base r ⌝ }
+fn find(names: &[u64], counts: &[u16], lengths: &[u8; 32], g: Marks, among: u32, base: u32) -> Grade
+    requires { ⌜ Readable (now names) (now counts) base (now lengths) ⌝ }
+    ensures { λ r. ⌜ Gives (longest mostSenders ones (readingOf (now (names .entry)) (now (counts .entry)) base (agreementFrom g (now (lengths .entry))) among)) (now (names .entry)) (now (counts .entry)) base r ⌝ }
 {
-    let lengths = g.lengths;
-    let voters = g.voters;
-    let may = in_both(voters, among);
+    let may = in_both(g.voters, among);
     let all = senders(g);
-    if all < 2 * count_in(may) {
+    if all < 2 * size(may) {
         return climb(names, counts, lengths, may, base, all);
     }
     Grade::Nothing
 }
 
 // The longest log with the grade, or nothing where the record has a length over 64 or the lists lack room for its logs.
-fn grade_among(names: &[u64], counts: &[u16], g: Agreement, among: [bool; 32], base: u32) -> Grade
-    ensures { λ r. ⌜ Gives (gradeAmong (now (names .entry)) (now (counts .entry)) base g among) (now (names .entry)) (now (counts .entry)) base r ⌝ }
+fn grade_among(
+    names: &[u64],
+    counts: &[u16],
+    lengths: &[u8; 32],
+    g: Marks,
+    among: u32,
+    base: u32,
+) -> Grade
+    ensures { λ r. ⌜ Gives (gradeAmong (now (names .entry)) (now (counts .entry)) base (agreementFrom g (now (lengths .entry))) among) (now (names .entry)) (now (counts .entry)) base r ⌝ }
 {
-    let lengths = g.lengths;
-    if lacks_room(names.len(), counts.len(), base) | (0 < count_over(lengths, MOST_BLOCKS)) {
+    if lacks_room(names.len(), counts.len(), base) | is_over(lengths, MOST_BLOCKS) {
         return Grade::Nothing;
     }
-    find(names, counts, g, among, base)
+    find(names, counts, lengths, g, among, base)
 }
 
-// Grade 0: all of V may support.
-pub fn zero(g: Agreement, names: &[u64], counts: &[u16], base: u32) -> Grade
-    ensures { λ r. ⌜ Gives (gradeZero (now (names .entry)) (now (counts .entry)) base g) (now (names .entry)) (now (counts .entry)) base r ⌝ }
+// The snapshot that serves this grade: none serves grade 0, which V now stands in for.
+pub fn serving(g: Marks, grade: u8) -> Snapshot
+    ensures { λ r. ⌜ r ≡ snapshotFor grade g ⌝ }
 {
-    let among = g.voters;
-    grade_among(names, counts, g, among, base)
-}
-
-// Grade 1: those of V in snapshot two may support; nothing where it was not taken.
-pub fn one(g: Agreement, names: &[u64], counts: &[u16], base: u32) -> Grade
-    ensures { λ r. ⌜ Gives (gradeOne (now (names .entry)) (now (counts .entry)) base g) (now (names .entry)) (now (counts .entry)) base r ⌝ }
-{
-    if g.hastwo {
-        let among = g.two;
-        return grade_among(names, counts, g, among, base);
+    if grade == 0 {
+        return snapshot_now(g);
     }
-    Grade::Nothing
+    if grade == 1 {
+        return g.two;
+    }
+    g.one
 }
 
-// Grade 2: those of V in snapshot one may support; nothing where it was not taken.
-pub fn two(g: Agreement, names: &[u64], counts: &[u16], base: u32) -> Grade
-    ensures { λ r. ⌜ Gives (gradeTwo (now (names .entry)) (now (counts .entry)) base g) (now (names .entry)) (now (counts .entry)) base r ⌝ }
+// The longest log with grade 0, 1 or 2; nothing where the snapshot that serves it was not taken.
+pub fn grade(
+    g: Marks,
+    lengths: &[u8; 32],
+    names: &[u64],
+    counts: &[u16],
+    base: u32,
+    grade: u8,
+) -> Grade
+    ensures { λ r. ⌜ Gives (gradeOf (now (names .entry)) (now (counts .entry)) base (agreementFrom g (now (lengths .entry))) grade) (now (names .entry)) (now (counts .entry)) base r ⌝ }
 {
-    if g.hasone {
-        let among = g.one;
-        return grade_among(names, counts, g, among, base);
+    let s = serving(g, grade);
+    if s.taken == 0 {
+        return Grade::Nothing;
     }
-    Grade::Nothing
+    grade_among(names, counts, lengths, g, s.senders, base)
 }

@@ -2,89 +2,82 @@
 // Each public function answers for every record, place and length.
 ghost use mathlib.Core.Path.{_≡_};
 ghost use Prim.Native.Nat.{ℕ, _<_};
-ghost use mathlib.Core.Bool.{_&&_, _||_};
+ghost use mathlib.Core.Bool.{_&&_};
 ghost use lib.Dec.{eqb};
 ghost use lib.ListN.{getD};
 ghost use Rattle.message.specs.Logs.{sameLog};
 ghost use Rattle.message.specs.Message.{logIn};
-ghost use Rattle.agreement.specs.Limits.{mostSenders};
-ghost use Rattle.agreement.specs.Sets.{member};
-ghost use Rattle.agreement.specs.Record.{filedLog};
+ghost use Rattle.message.specs.Store.{logAt, prefixAt};
+ghost use Rattle.agreement.specs.Limits.{mostSenders, placeOf};
 ghost use Rattle.agreement.specs.Filing.{Fit};
-ghost use Rattle.agreement.specs.Steps.{Contest};
-ghost use Rattle.agreement.specs.Proposals.{emptyProposals, withProposal, withAside, fileProposalOf, FilesProposal, fits, better, ifFits, choiceOf, chosen, Chooses};
+ghost use Rattle.agreement.specs.Steps.{Contest, beats};
+ghost use Rattle.agreement.specs.Proposals.{emptyShown, proposalsFrom, shownOnce, shownTwice, fileProposalOf, FilesProposal, ifFits, choiceOf, chosen, Chooses};
 use super::Answer;
 use super::Choice;
 use super::FiledProposal;
-use super::MOST_SENDERS;
-use super::Proposals;
+use super::Shown;
 use super::room::is_filed;
 use super::room::lacks_room;
-use super::room::place_of;
 use super::room::store_log;
 use super::room::unfit;
+use super::room::wide;
+use super::sets::has;
+use super::sets::in_first;
+use super::sets::with_sender;
+use message::MOST_BLOCKS;
 
-pub fn empty(view: u32) -> Proposals
-    ensures { λ r. ⌜ r ≡ emptyProposals view ⌝ }
+pub fn empty(view: u32) -> Shown
+    ensures { λ r. ⌜ r ≡ emptyShown view ⌝ }
 {
-    Proposals {
+    Shown {
         view,
-        lengths: [0; 32],
-        priorities: [0; 32],
-        filed: [false; 32],
-        aside: [false; 32],
+        filed: 0,
+        aside: 0,
     }
 }
 
-// The proposals with sender i's first, of k blocks.
-fn with_proposal(g: Proposals, i: usize, k: u8, priority: u64) -> Proposals
+// The marks with a proposal of sender i.
+fn once(g: Shown, i: usize) -> Shown
     requires { ⌜ i < mostSenders ⌝ }
-    ensures { λ r. ⌜ r ≡ withProposal g i k priority ⌝ }
+    ensures { λ r. ⌜ r ≡ shownOnce g i ⌝ }
 {
     let mut h = g;
-    h.lengths[i] = k;
-    h.priorities[i] = priority;
-    h.filed[i] = true;
+    h.filed = with_sender(g.filed, i);
     h
 }
 
-// The proposals with sender i's set aside.
-fn set_aside(g: Proposals, i: usize) -> Proposals
+// The marks with sender i's proposals set aside.
+fn twice(g: Shown, i: usize) -> Shown
     requires { ⌜ i < mostSenders ⌝ }
-    ensures { λ r. ⌜ r ≡ withAside g i ⌝ }
+    ensures { λ r. ⌜ r ≡ shownTwice g i ⌝ }
 {
     let mut h = g;
-    h.aside[i] = true;
+    h.aside = with_sender(g.aside, i);
     h
 }
 
-// Nothing new: the sender's proposals are set aside, or this one is filed.
-fn is_known(
-    g: Proposals,
+// The proposal is the one filed of this sender, which has so many blocks and this priority.
+fn is_same(
     names: &[u64],
     counts: &[u16],
     base: u32,
+    length: u8,
+    held: u64,
     bytes: &[u8],
     sender: u8,
     priority: u64,
 ) -> bool
     requires { ⌜ Fit (now names) (now counts) base (now bytes) sender ⌝ }
-    ensures { λ r. ⌜ r ≡ member (g .aside) sender || (member (g .filed) sender
-        && (sameLog (logIn (now (bytes .entry))) (filedLog (now (names .entry)) (now (counts .entry)) base (g .lengths) sender)
-        && eqb priority (getD (g .priorities) sender 0))) ⌝ }
+    ensures { λ r. ⌜ r ≡ (sameLog (logIn (now (bytes .entry))) (logAt (now (names .entry)) (now (counts .entry)) (placeOf base sender) length) && eqb priority held) ⌝ }
 {
-    let i = sender as usize;
-    let aside = g.aside;
-    let filed = g.filed;
-    let lengths = g.lengths;
-    let priorities = g.priorities;
-    let same = is_filed(names, counts, base, lengths, bytes, sender);
-    aside[i] | (filed[i] & (same & (priority == priorities[i])))
+    is_filed(names, counts, base, length, bytes, sender) & (priority == held)
 }
 
 // A proposal that can be filed.
 fn file_fit(
-    g: Proposals,
+    g: Shown,
+    lengths: &mut [u8; 32],
+    priorities: &mut [u64; 32],
     names: &mut [u64],
     counts: &mut [u16],
     base: u32,
@@ -93,32 +86,50 @@ fn file_fit(
     priority: u64,
 ) -> FiledProposal
     requires { ⌜ Fit (now names) (now counts) base (now bytes) sender ⌝ }
-    ensures { λ r. ⌜ FilesProposal (fileProposalOf g (now (names .entry)) (now (counts .entry)) base (now (bytes .entry)) sender priority) r (now (names .exit)) (now (counts .exit)) ⌝ }
+    ensures { λ r. ⌜ FilesProposal (fileProposalOf (proposalsFrom g (now (lengths .entry)) (now (priorities .entry))) (now (names .entry)) (now (counts .entry)) base (now (bytes .entry)) sender priority) r (now (lengths .exit)) (now (priorities .exit)) (now (names .exit)) (now (counts .exit)) ⌝ }
 {
-    if is_known(g, names, counts, base, bytes, sender, priority) {
+    let i = sender as usize;
+    if has(g.aside, i) {
         return FiledProposal {
             answer: Answer::Known,
-            proposals: g,
+            marks: g,
         };
     }
-    let i = sender as usize;
-    let filed = g.filed;
-    if filed[i] {
+    if has(g.filed, i) {
+        if is_same(
+            names,
+            counts,
+            base,
+            lengths[i],
+            priorities[i],
+            bytes,
+            sender,
+            priority,
+        ) {
+            return FiledProposal {
+                answer: Answer::Known,
+                marks: g,
+            };
+        }
         return FiledProposal {
             answer: Answer::Second,
-            proposals: set_aside(g, i),
+            marks: twice(g, i),
         };
     }
     store_log(names, counts, base, bytes, sender);
+    lengths[i] = bytes[0];
+    priorities[i] = priority;
     FiledProposal {
         answer: Answer::First,
-        proposals: with_proposal(g, i, bytes[0], priority),
+        marks: once(g, i),
     }
 }
 
 // The proposal in the bytes, filed. Where nothing can be filed, known, and nothing changes.
 pub fn file(
-    g: Proposals,
+    g: Shown,
+    lengths: &mut [u8; 32],
+    priorities: &mut [u64; 32],
     names: &mut [u64],
     counts: &mut [u16],
     base: u32,
@@ -126,55 +137,43 @@ pub fn file(
     sender: u8,
     priority: u64,
 ) -> FiledProposal
-    ensures { λ r. ⌜ FilesProposal (fileProposalOf g (now (names .entry)) (now (counts .entry)) base (now (bytes .entry)) sender priority) r (now (names .exit)) (now (counts .exit)) ⌝ }
+    ensures { λ r. ⌜ FilesProposal (fileProposalOf (proposalsFrom g (now (lengths .entry)) (now (priorities .entry))) (now (names .entry)) (now (counts .entry)) base (now (bytes .entry)) sender priority) r (now (lengths .exit)) (now (priorities .exit)) (now (names .exit)) (now (counts .exit)) ⌝ }
 {
     if unfit(names.len(), counts.len(), base, bytes, sender) {
         return FiledProposal {
             answer: Answer::Known,
-            proposals: g,
+            marks: g,
         };
     }
-    file_fit(g, names, counts, base, bytes, sender, priority)
+    file_fit(
+        g,
+        lengths,
+        priorities,
+        names,
+        counts,
+        base,
+        bytes,
+        sender,
+        priority,
+    )
 }
 
-// Sender i's proposal may be voted for: filed, not set aside, and with the lock, the k blocks at place a, as a prefix.
-fn may_choose(
-    g: Proposals,
-    names: &[u64],
-    counts: &[u16],
-    base: u32,
-    a: usize,
-    k: usize,
-    i: usize,
-) -> bool
-    requires { ⌜ i < mostSenders ⌝ }
-    ensures { λ r. ⌜ r ≡ fits (now (names .entry)) (now (counts .entry)) base g a k i ⌝ }
-{
-    let filed = g.filed;
-    let aside = g.aside;
-    let lengths = g.lengths;
-    let at = place_of(base, i);
-    let has_lock = message::store::is_prefix(names, counts, a, k, at, lengths[i] as usize);
-    filed[i] & (!aside[i] & has_lock)
-}
-
-// The better of the best so far and sender i, who comes after it.
-fn better_of(best: Choice, priorities: [u64; 32], i: usize) -> Choice
+// Sender i, who comes after the best so far, is better by its priority.
+fn beats(best: Choice, priorities: &[u64; 32], i: usize) -> bool
     requires { ⌜ Contest best i ⌝ }
-    ensures { λ r. ⌜ Chooses (better (λ (j : ℕ). getD priorities j 0) (chosen best) i) r ⌝ }
+    ensures { λ r. ⌜ r ≡ beats (λ (j : ℕ). getD (now (priorities .entry)) j 0) (chosen best) i ⌝ }
 {
     let Choice::Proposal(j) = best else {
-        return Choice::Proposal(i as u8);
+        return true;
     };
-    if priorities[j as usize] < priorities[i] {
-        return Choice::Proposal(i as u8);
-    }
-    Choice::Proposal(j)
+    priorities[j as usize] < priorities[i]
 }
 
-// The best of the senders to i, from the best of those before it.
+// The best of the senders to i, whose proposal is filed and not set aside, from the best of those before it. Its log is looked at
+// only where it would win: it may be voted for where the lock, the k blocks at place a, is a prefix.
 fn best_to(
-    g: Proposals,
+    lengths: &[u8; 32],
+    priorities: &[u64; 32],
     names: &[u64],
     counts: &[u16],
     base: u32,
@@ -184,27 +183,46 @@ fn best_to(
     i: usize,
 ) -> Choice
     requires { ⌜ Contest best i ⌝ }
-    ensures { λ r. ⌜ Chooses (ifFits (fits (now (names .entry)) (now (counts .entry)) base g a k i) (λ (j : ℕ). getD (g .priorities) j 0) (chosen best) i) r ⌝ }
+    ensures { λ r. ⌜ Chooses (ifFits (prefixAt (now (names .entry)) (now (counts .entry)) a k (placeOf base i) (getD (now (lengths .entry)) i 0)) (λ (j : ℕ). getD (now (priorities .entry)) j 0) (chosen best) i) r ⌝ }
 {
-    if may_choose(g, names, counts, base, a, k, i) {
-        let priorities = g.priorities;
-        return better_of(best, priorities, i);
+    if beats(best, priorities, i) {
+        let at = base as usize + MOST_BLOCKS * i;
+        let blocks = wide(lengths[i]);
+        if message::store::is_prefix(names, counts, a, k, at, blocks) {
+            return Choice::Proposal(i as u8);
+        }
+        return best;
     }
     best
 }
 
 // The sender whose proposal is voted for: of those that may be, the highest priority, the lower number on a tie.
-pub fn choose(g: Proposals, names: &[u64], counts: &[u16], base: u32, a: usize, k: usize) -> Choice
-    ensures { λ r. ⌜ Chooses (choiceOf (now (names .entry)) (now (counts .entry)) base g a k) r ⌝ }
+pub fn choose(
+    g: Shown,
+    lengths: &[u8; 32],
+    priorities: &[u64; 32],
+    names: &[u64],
+    counts: &[u16],
+    base: u32,
+    a: usize,
+    k: usize,
+) -> Choice
+    ensures { λ r. ⌜ Chooses (choiceOf (now (names .entry)) (now (counts .entry)) base (proposalsFrom g (now (lengths .entry)) (now (priorities .entry))) a k) r ⌝ }
 {
     if lacks_room(names.len(), counts.len(), base) {
         return Choice::Lock;
     }
     let mut best = Choice::Lock;
+    let mut left = in_first(g.filed, g.aside);
     let mut i = 0;
-    while i < MOST_SENDERS {
-        best = best_to(g, names, counts, base, a, k, best, i);
+    while 0 < left {
+        let sender = i;
+        let shown = left % 2 == 1;
+        left = left / 2;
         i += 1;
+        if shown {
+            best = best_to(lengths, priorities, names, counts, base, a, k, best, sender);
+        }
     }
     best
 }

@@ -7,13 +7,19 @@ ghost use lib.Dec.{leb, ltb};
 ghost use Rattle.message.specs.Logs.{sameLog, namesOf, countsOf};
 ghost use Rattle.message.specs.Message.{logIn};
 ghost use Rattle.message.specs.Numbers.{put};
-ghost use Rattle.message.specs.Store.{holdsLog};
+ghost use Rattle.message.specs.Store.{holdsLog, logAt};
 ghost use Rattle.agreement.specs.Limits.{mostSenders, span, placeOf};
-ghost use Rattle.agreement.specs.Record.{filedLog};
 ghost use Rattle.agreement.specs.Filing.{Fit};
 use super::MOST_SENDERS;
 use super::SPAN;
 use message::MOST_BLOCKS;
+
+// A length, to be compared with others.
+pub(crate) fn wide(x: u8) -> usize
+    ensures { λ r. ⌜ (r ≡ x) × (r < 256) ⌝ }
+{
+    x as usize
+}
 
 // Where sender i's log stands.
 pub(crate) fn place_of(base: u32, i: usize) -> usize
@@ -39,21 +45,20 @@ pub(crate) fn unfit(names: usize, counts: usize, base: u32, bytes: &[u8], sender
         | (lacks_room(names, counts, base) | !message::store::holds_log(bytes))
 }
 
-// The log in the bytes is the one filed of this sender.
+// The log in the bytes is the one filed of this sender, which has so many blocks.
 pub(crate) fn is_filed(
     names: &[u64],
     counts: &[u16],
     base: u32,
-    lengths: [u8; 32],
+    length: u8,
     bytes: &[u8],
     sender: u8,
 ) -> bool
     requires { ⌜ Fit (now names) (now counts) base (now bytes) sender ⌝ }
-    ensures { λ r. ⌜ r ≡ sameLog (logIn (now (bytes .entry))) (filedLog (now (names .entry)) (now (counts .entry)) base lengths sender) ⌝ }
+    ensures { λ r. ⌜ r ≡ sameLog (logIn (now (bytes .entry))) (logAt (now (names .entry)) (now (counts .entry)) (placeOf base sender) length) ⌝ }
 {
-    let i = sender as usize;
-    let at = place_of(base, i);
-    message::store::matches(bytes, names, counts, at, lengths[i] as usize)
+    let at = place_of(base, sender as usize);
+    message::store::matches(bytes, names, counts, at, length as usize)
 }
 
 // The log in the bytes, filed at this sender's place.

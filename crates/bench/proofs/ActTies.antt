@@ -12,17 +12,16 @@ use Rattle.message.specs.Logs.{Log}
 use Rattle.message.specs.Message.{Meaning}
 use Rattle.agreement.specs.Limits.{span}
 use Rattle.agreement.specs.Sets.{member}
-use Rattle.agreement.specs.Record.{withOne, withTwo}
-use Rattle.agreement.specs.Kept.{keptLog, singleOf}
-use Rattle.agreement.specs.declared.Agreement.{Agreement}
-use Rattle.agreement.specs.declared.Proposals.{Proposals}
+use Rattle.agreement.specs.Record.{SnapshotNumber, one, two, snapshotAt, withSnapshot, Agreement}
+use Rattle.agreement.specs.Kept.{keptLog, singleOf, snapshotIn}
+use Rattle.agreement.specs.Heard.{heardLogs}
+use Rattle.agreement.specs.Proposals.{Proposals}
 use Rattle.agreement.proofs.KeptLaws.{kept-voter}
 use Rattle.agreement.proofs.ElsewhereLaws.{untouched}
 use Rattle.bench.specs.Layout.{logsPlace, Lent}
-use Rattle.bench.specs.Calendar.{lastView, inputBeat, snapshotOneBeat, snapshotTwoBeat, closeBeat}
-use Rattle.bench.specs.History.{ActRecord, History, beatNow, heardAt, snapshotOf, closed}
-use Rattle.bench.specs.Record.{agreementOf, withAgreement}
-use Rattle.bench.specs.declared.Bench.{Bench}
+use Rattle.bench.specs.Calendar.{lastView, inputBeat, snapshotBeat, closeBeat}
+use Rattle.bench.specs.History.{ActRecord, History, beatNow, heardAt, snapshotOf, snapshotTook, closed}
+use Rattle.bench.specs.Record.{agreementOf, withAgreement, Bench}
 use Rattle.bench.proofs.Fine.{Fine}
 use Rattle.bench.proofs.FineAgreements.{not-both}
 use Rattle.bench.proofs.Slots.{agreement-view, agreement-fine, agreement-rest, changed-proposals}
@@ -44,8 +43,12 @@ module _ (p : History) (made : Option Meaning) (decided : Option Log) (beat : �
   unfolding heardAt
   heard-now = rw (eq-eqb (beatNow p) beat now)
 
-  same-view : (u : ℕ) → (beat ≡ snapshotOneBeat u → ⊥) → (beat ≡ snapshotTwoBeat u → ⊥) → SameView p q u
-  same-view u x y = record { logs = λ i. refl; one = heard-before (snapshotOneBeat u) x; two = heard-before (snapshotTwoBeat u) y }
+  -- no snapshot of view u is taken now
+  abbrev pub NoneOf : ℕ → Type 0
+  NoneOf u = (k : SnapshotNumber) → beat ≡ snapshotBeat k u → ⊥
+
+  same-view : (u : ℕ) → NoneOf u → SameView p q u
+  same-view u x = record { logs = λ i. refl; acts = λ k. heard-before (snapshotBeat k u) (x k) }
 
   module _ {b : Bench} {l : Lent} (next : b .next ≡ beat + 1) (f : Fine b) (h : Filled b l p) where
     since-then : Since (b .next) q
@@ -59,16 +62,16 @@ module _ (p : History) (made : Option Meaning) (decided : Option Log) (beat : �
     }
 
     -- an act at a beat of no snapshot
-    pub quiet-filled : ((u : ℕ) → u ≤ lastView → (beat ≡ snapshotOneBeat u → ⊥) × (beat ≡ snapshotTwoBeat u → ⊥)) → Filled b l q
+    pub quiet-filled : ((u : ℕ) → u ≤ lastView → NoneOf u) → Filled b l q
     quiet-filled none-then = record {
-      views = λ u i o. let z = none-then u i in holds-same (same-view u (z .0) (z .1)) (h .views u i o);
+      views = λ u i o. holds-same (same-view u (none-then u i)) (h .views u i o);
       proposals = λ u i o. h .proposals u i o;
       since = since-then;
     }
 
     -- the snapshot of view v: V as it is now
     module _ (v : ℕ) (low : v ≤ lastView) (late : inputBeat v < b .next) (soon : b .next ≤ closeBeat v + 1) where
-      voters-same : some (member (agreementOf b v .voters)) ≡ snapshotOf v (some (p .heard))
+      voters-same : some (member (agreementOf b v .marks .voters)) ≡ snapshotOf v (some (p .heard))
       voters-same =
           let g = agreementOf b v in
           ap {B = Option (ℕ → Bool)} some
@@ -76,40 +79,48 @@ module _ (p : History) (made : Option Meaning) (decided : Option Log) (beat : �
           kept-voter (l .names) (l .counts) (logsPlace v) g i (not-both (b .n) g (agreement-fine b v low f) i)
           ∙ ap singleOf (h .views v low soon .logs i)))
 
-      snapped-filled : (g : Agreement) → g .view ≡ v → Holds l g q v
-          → ((u : ℕ) → (u ≡ v → ⊥) → (beat ≡ snapshotOneBeat u → ⊥) × (beat ≡ snapshotTwoBeat u → ⊥)) → Filled (withAgreement b v g) l q
+      snapped-filled : (g : Agreement) → g .marks .view ≡ v → Holds l g q v
+          → ((u : ℕ) → (u ≡ v → ⊥) → NoneOf u) → Filled (withAgreement b v g) l q
       snapped-filled g view here others =
           let e = agreement-rest b v g in
           let x = e .next in
           record {
             views = λ u i o.
                 agreement-views f h v late soon (untouched (logsPlace v) span (l .names) (l .counts)) g view here
-                (λ w d j. let z = others w d in same-view w (z .0) (z .1)) u i (omega arith);
+                (λ w d j. same-view w (others w d)) u i (omega arith);
             proposals = λ u i o.
                 subst (λ (z : Proposals). HoldsProposals l z q u) (sym (changed-proposals b v g u)) (h .proposals u i (omega arith));
             since = subst (λ (z : ℕ). Since z q) (sym x) since-then;
           }
 
-      pub one-filled : beat ≡ snapshotOneBeat v → Filled (withAgreement b v (withOne (agreementOf b v))) l q
+      pub snapshot-filled : (k : SnapshotNumber) → beat ≡ snapshotBeat k v → Filled (withAgreement b v (withSnapshot k (agreementOf b v))) l q
       unfolding keptLog
-      one-filled e =
+      snapshot-filled k e =
           let old = h .views v low soon in
-          snapped-filled (withOne (agreementOf b v)) (agreement-view b v)
-          (record {
-            logs = old .logs;
-            one = voters-same ∙ ap (snapshotOf v) (sym heard-now ∙ ap (heardAt (q .actions)) e);
-            two = old .two ∙ ap (snapshotOf v) (sym (heard-before (snapshotTwoBeat v) (λ z. omega arith)));
-          })
-          (λ u d. ((λ z. d (omega arith)), (λ z. omega arith)))
+          let taken : some (member (agreementOf b v .marks .voters)) ≡ snapshotTook q k v =
+          voters-same ∙ ap (snapshotOf v) (sym heard-now ∙ ap (heardAt (q .actions)) e) in
+          let left : (j : SnapshotNumber) → (beat ≡ snapshotBeat j v → ⊥) → snapshotIn (snapshotAt j (agreementOf b v .marks)) ≡ snapshotTook q j v =
+          λ j d. old .snapshots j ∙ ap (snapshotOf v) (sym (heard-before (snapshotBeat j v) d)) in
+          snapped-filled (withSnapshot k (agreementOf b v)) (snapped-view k) (record { logs = same-logs k; snapshots = each k e taken left }) (elsewhere k e)
+        where
+          snapped-view : (k : SnapshotNumber) → withSnapshot k (agreementOf b v) .marks .view ≡ v
+          snapped-view one = agreement-view b v
+          snapped-view two = agreement-view b v
 
-      pub two-filled : beat ≡ snapshotTwoBeat v → Filled (withAgreement b v (withTwo (agreementOf b v))) l q
-      unfolding keptLog
-      two-filled e =
-          let old = h .views v low soon in
-          snapped-filled (withTwo (agreementOf b v)) (agreement-view b v)
-          (record {
-            logs = old .logs;
-            one = old .one ∙ ap (snapshotOf v) (sym (heard-before (snapshotOneBeat v) (λ z. omega arith)));
-            two = voters-same ∙ ap (snapshotOf v) (sym heard-now ∙ ap (heardAt (q .actions)) e);
-          })
-          (λ u d. ((λ z. omega arith), (λ z. d (omega arith))))
+          same-logs : (k : SnapshotNumber) (i : ℕ) → keptLog (l .names) (l .counts) (logsPlace v) (withSnapshot k (agreementOf b v)) i ≡ heardLogs (q .heard) v i
+          same-logs one i = h .views v low soon .logs i
+          same-logs two i = h .views v low soon .logs i
+
+          each : (k : SnapshotNumber) → beat ≡ snapshotBeat k v → some (member (agreementOf b v .marks .voters)) ≡ snapshotTook q k v
+              → ((j : SnapshotNumber) → (beat ≡ snapshotBeat j v → ⊥) → snapshotIn (snapshotAt j (agreementOf b v .marks)) ≡ snapshotTook q j v)
+              → (j : SnapshotNumber) → snapshotIn (snapshotAt j (withSnapshot k (agreementOf b v) .marks)) ≡ snapshotTook q j v
+          each one e taken left one = taken
+          each one e taken left two = left two (λ z. omega arith)
+          each two e taken left one = left one (λ z. omega arith)
+          each two e taken left two = taken
+
+          elsewhere : (k : SnapshotNumber) → beat ≡ snapshotBeat k v → (u : ℕ) → (u ≡ v → ⊥) → NoneOf u
+          elsewhere one e u d one z = d (omega arith)
+          elsewhere one e u d two z = omega arith
+          elsewhere two e u d one z = omega arith
+          elsewhere two e u d two z = d (omega arith)

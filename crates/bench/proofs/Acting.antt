@@ -13,18 +13,18 @@ use Rattle.message.specs.Message.{Meaning, proposalMessage, bytesOf}
 use Rattle.message.specs.Store.{logAt}
 use Rattle.message.proofs.TestLaws.{either}
 use Rattle.message.proofs.Codec.{read-written}
-use Rattle.agreement.specs.Record.{withOne, withTwo}
+use Rattle.agreement.specs.Record.{SnapshotNumber, one, two, withSnapshot}
+use Rattle.agreement.specs.Sets.{isYes}
 use Rattle.bench.specs.Terms.{Seat}
 use Rattle.bench.specs.Layout.{decidedPlace, mostBytes}
-use Rattle.bench.specs.Calendar.{lastView, viewBeat, inputBeat, snapshotOneBeat, snapshotTwoBeat, closeBeat, viewOf, placeIn, actAt}
+use Rattle.bench.specs.Calendar.{lastView, viewBeat, inputBeat, snapshotBeat, snapshotTaken, closeBeat, viewOf, placeIn, Act, actAt}
 use Rattle.bench.specs.Calls.{act, acted, openTo, Typed, State}
 use Rattle.bench.specs.Acts.{Seen, mayPropose, isView, inViews, propose, vote, makes, outAfter, decides}
 use Rattle.bench.specs.History.{History, beatNow, refusal, seenAt, madeBy, decidedBy, fileMade, closed, accepted, answer, acceptedAnswer, standIn}
-use Rattle.bench.specs.Record.{agreementOf, proposalsOf, beatOf, idle}
-use Rattle.bench.specs.ByRecord.{candidateOf, lockOf, decisionOf, seenOf, snappedOne, snappedTwo, snapped, changed, withMade, actedOf, over, actOf}
-use Rattle.bench.specs.declared.Bench.{Bench}
+use Rattle.bench.specs.Record.{agreementOf, proposalsOf, beatOf, idle, Bench}
+use Rattle.bench.specs.ByRecord.{usedOf, seenOf, snappedBy, snapped, changed, withMade, actedOf, over, actOf}
 use Rattle.bench.proofs.Fine.{Fine}
-use Rattle.bench.proofs.FineAgreements.{one-fine, two-fine}
+use Rattle.bench.proofs.FineAgreements.{snapshot-fine}
 use Rattle.bench.proofs.FineBench.{with-agreement-fine}
 use Rattle.bench.proofs.Slots.{agreement-fine, agreement-rest, SameBesides}
 use Rattle.bench.proofs.GoodHistory.{GoodLog, decided-good, made-good}
@@ -33,7 +33,7 @@ use Rattle.bench.proofs.FilingTies.{file-tie}
 use Rattle.bench.proofs.CallTies.{Agrees, both-refuse, both-accept, in-limits, long-lists, beat-same, started, carries-read}
 use Rattle.bench.proofs.SeenTies.{makes-same, decides-same}
 use Rattle.bench.proofs.Settling.{Settled, decision-settled}
-use Rattle.bench.proofs.ActTies.{quiet-filled, one-filled, two-filled}
+use Rattle.bench.proofs.ActTies.{NoneOf, quiet-filled, snapshot-filled}
 
 -- ---- what is made is open at the beat at which it is made
 
@@ -66,9 +66,9 @@ made-open : (own v r : ℕ) (block : Block) (priority : ℕ) (seen : Seen) (m : 
     → makes own v block priority seen (actAt r) ≡ some m → openTo m beat ≡ true
 unfolding makes
 made-open own v zero block priority seen m beat ev er e =
-    proposal-open own v block priority (seen .candidate) m beat (views-some v _ m e .1) (omega arith)
+    proposal-open own v block priority (seen .used) m beat (views-some v _ m e .1) (omega arith)
 made-open own v (suc zero) block priority seen m beat ev er e =
-    vote-open own v (seen .choose) (seen .lock) m beat (views-some v _ m e .1) (omega arith)
+    vote-open own v (seen .choose) (seen .used) m beat (views-some v _ m e .1) (omega arith)
 made-open own v (suc (suc zero)) block priority seen m beat ev er e = absurd (Option·none-ne-some _ e)
 made-open own v (suc (suc (suc r))) block priority seen m beat ev er e = absurd (Option·none-ne-some _ e)
 
@@ -80,10 +80,10 @@ last-injective (suc j) (suc k) e = ap suc (Option·some-injective _ _ e)
 
 -- ---- the end of the gathering does not change what is seen
 
-over-seen : (s : State) (v : ℕ) → seenOf (over s) v ≡ seenOf s v
-unfolding candidateOf lockOf decisionOf agreementOf proposalsOf
-over-seen s zero = refl
-over-seen s (suc u) = refl
+over-seen : (s : State) (v : ℕ) (a : Act) → seenOf (over s) v a ≡ seenOf s v a
+unfolding usedOf agreementOf proposalsOf
+over-seen s zero a = refl
+over-seen s (suc u) a = refl
 
 module _ (S : Seat) (s : State) (p : History) (t : Tie S s p) (busy : p .gathering ≡ true) where
   abbrev beat : ℕ
@@ -112,75 +112,73 @@ module _ (S : Seat) (s : State) (p : History) (t : Tie S s p) (busy : p .gatheri
           fine = f;
           roomy = w .roomy;
           last-is = ap lastOf (r .next ∙ w .next-is) ∙ t .last-is;
-          gathering-is = ap (λ (y : Bool). not (not y || eqb (c .next) 0)) g;
+          gathering-is = ap (λ (y : ℕ). not (not (isYes y) || eqb (c .next) 0)) g;
           filled = h;
-          stand-is = (λ i. record { log = logAt (x .lent .names) (x .lent .counts) decidedPlace (e i); parted = m i }) ∙ w .stand-is;
+          stand-is = (λ i. record { log = logAt (x .lent .names) (x .lent .counts) decidedPlace (e i); parted = isYes (m i) }) ∙ w .stand-is;
           good = record { heard = t .good .heard; proposals = t .good .proposals; priorities = t .good .priorities };
         }
 
-    settled-tie : {x : State} → Settled S s p d x → ((u : ℕ) → u ≤ lastView → (beat ≡ snapshotOneBeat u → ⊥) × (beat ≡ snapshotTwoBeat u → ⊥)) → Tie S x (closed p made d)
+    settled-tie : {x : State} → Settled S s p d x → ((u : ℕ) → u ≤ lastView → NoneOf p made d beat now u) → Tie S x (closed p made d)
     settled-tie {x} w quiet =
         rest-tie w (record { n = refl; own = refl; next = refl; gathering = refl; proposals = refl; decided = refl; parted = refl }) (w .fine)
         (quiet-filled p made d beat now (w .next-is ∙ next) (w .fine) (w .filled) quiet)
 
-    -- snapshot one of view v, or none after the last view
-    one-tie : {x : State} (v : ℕ) → Settled S s p d x → beat ≡ snapshotOneBeat v → Tie S (snappedOne v x) (closed p made d)
-    unfolding snappedOne
-    one-tie {x} v w e =
+    -- a snapshot of view v, or none after the last view
+    snapshot-tie : {x : State} (k : SnapshotNumber) (v : ℕ) → Settled S s p d x → beat ≡ snapshotBeat k v → Tie S (snappedBy k v x) (closed p made d)
+    unfolding snappedBy
+    snapshot-tie {x} k v w e =
         let nx = w .next-is ∙ next in
         either (isView v)
         (λ i.
         let low = leb-true v lastView i in
-        let g = withOne (agreementOf (x .bench) v) in
+        let g = withSnapshot k (agreementOf (x .bench) v) in
+        let after = snapshot-after k v e in
         rw i
         (rest-tie w (agreement-rest (x .bench) v g)
-        (with-agreement-fine (x .bench) (w .fine) v g (one-fine (x .bench .n) (agreementOf (x .bench) v) (agreement-fine (x .bench) v low (w .fine))))
-        (one-filled p made d beat now nx (w .fine) (w .filled) v low (omega arith) (omega arith) e)))
-        (λ i. let high = leb-false v lastView i in rw i (settled-tie w (λ u l. ((λ z. omega arith), (λ z. omega arith)))))
+        (with-agreement-fine (x .bench) (w .fine) v g (snapshot-fine (x .bench .n) (agreementOf (x .bench) v) (agreement-fine (x .bench) v low (w .fine)) k))
+        (snapshot-filled p made d beat now nx (w .fine) (w .filled) v low (omega arith) (omega arith) k e)))
+        (λ i. let high = leb-false v lastView i in rw i (settled-tie w (past k v e high)))
+      where
+        -- both lie inside the view
+        snapshot-after : (k : SnapshotNumber) (v : ℕ) → beat ≡ snapshotBeat k v → (inputBeat v < beat) × (beat ≤ closeBeat v)
+        snapshot-after one v e = (omega arith, omega arith)
+        snapshot-after two v e = (omega arith, omega arith)
 
-    two-tie : {x : State} (v : ℕ) → Settled S s p d x → beat ≡ snapshotTwoBeat v → Tie S (snappedTwo v x) (closed p made d)
-    unfolding snappedTwo
-    two-tie {x} v w e =
-        let nx = w .next-is ∙ next in
-        either (isView v)
-        (λ i.
-        let low = leb-true v lastView i in
-        let g = withTwo (agreementOf (x .bench) v) in
-        rw i
-        (rest-tie w (agreement-rest (x .bench) v g)
-        (with-agreement-fine (x .bench) (w .fine) v g (two-fine (x .bench .n) (agreementOf (x .bench) v) (agreement-fine (x .bench) v low (w .fine))))
-        (two-filled p made d beat now nx (w .fine) (w .filled) v low (omega arith) (omega arith) e)))
-        (λ i. let high = leb-false v lastView i in rw i (settled-tie w (λ u l. ((λ z. omega arith), (λ z. omega arith)))))
+        past : (k : SnapshotNumber) (v : ℕ) → beat ≡ snapshotBeat k v → lastView < v → (u : ℕ) → u ≤ lastView → NoneOf p made d beat now u
+        past one v e h u l one z = omega arith
+        past one v e h u l two z = omega arith
+        past two v e h u l one z = omega arith
+        past two v e h u l two z = omega arith
 
   -- by the rows of the calendar
-  changed-tie : (made : Option Meaning) (v r : ℕ) → viewOf beat ≡ v → placeIn beat ≡ r → ((L : Log) → decides (seenOf (over s) v) (actAt r) ≡ some L → GoodLog L)
-      → Tie S (changed (over s) v (actAt r)) (closed p made (decides (seenOf (over s) v) (actAt r)))
+  changed-tie : (made : Option Meaning) (v r : ℕ) → viewOf beat ≡ v → placeIn beat ≡ r → ((L : Log) → decides (seenOf (over s) v (actAt r)) (actAt r) ≡ some L → GoodLog L)
+      → Tie S (changed (over s) v (actAt r)) (closed p made (decides (seenOf (over s) v (actAt r)) (actAt r)))
   unfolding changed
-  changed-tie made v r ev er good = snap r er (decision-settled S s p t (decides (seenOf (over s) v) (actAt r)) good)
+  changed-tie made v r ev er good = snap r er (decision-settled S s p t (decides (seenOf (over s) v (actAt r)) (actAt r)) good)
     where
-      snap : (k : ℕ) → placeIn beat ≡ k → {d : Option Log} {x : State} → Settled S s p d x → Tie S (snapped v (actAt k) x) (closed p made d)
-      snap zero e {d} w = settled-tie made d w (λ u l. ((λ z. omega arith), (λ z. omega arith)))
-      snap (suc zero) e {d} w = settled-tie made d w (λ u l. ((λ z. omega arith), (λ z. omega arith)))
-      snap (suc (suc zero)) e {d} w = one-tie made d v w (omega arith)
-      snap (suc (suc (suc k))) e {d} w = two-tie made d v w (omega arith)
+      snap : (k : ℕ) → placeIn beat ≡ k → {d : Option Log} {x : State} → Settled S s p d x → Tie S (snapped (snapshotTaken (actAt k)) v x) (closed p made d)
+      snap zero e {d} w = settled-tie made d w (λ u l j. elim j [ one ↦ (λ z. omega arith) | two ↦ (λ z. omega arith) ])
+      snap (suc zero) e {d} w = settled-tie made d w (λ u l j. elim j [ one ↦ (λ z. omega arith) | two ↦ (λ z. omega arith) ])
+      snap (suc (suc zero)) e {d} w = snapshot-tie made d one v w (omega arith)
+      snap (suc (suc (suc k))) e {d} w = snapshot-tie made d two v w (omega arith)
 
   -- ---- what is made and decided
 
   module _ (block : Block) (priority : ℕ) where
-    made-same : makes (s .bench .own) (viewOf beat) block priority (seenOf (over s) (viewOf beat)) (actAt (placeIn beat)) ≡ madeBy S p block priority
+    made-same : makes (s .bench .own) (viewOf beat) block priority (seenOf (over s) (viewOf beat) (actAt (placeIn beat))) (actAt (placeIn beat)) ≡ madeBy S p block priority
     unfolding madeBy
     made-same =
-        ap (λ (k : ℕ). makes k (viewOf beat) block priority (seenOf (over s) (viewOf beat)) (actAt (placeIn beat))) (t .own-is)
-        ∙ ap (λ (x : Seen). makes (S .own) (viewOf beat) block priority x (actAt (placeIn beat))) (over-seen s (viewOf beat))
+        ap (λ (k : ℕ). makes k (viewOf beat) block priority (seenOf (over s) (viewOf beat) (actAt (placeIn beat))) (actAt (placeIn beat))) (t .own-is)
+        ∙ ap (λ (x : Seen). makes (S .own) (viewOf beat) block priority x (actAt (placeIn beat))) (over-seen s (viewOf beat) (actAt (placeIn beat)))
         ∙ makes-same S s p t block priority beat next (viewOf beat) (placeIn beat) refl refl
-        ∙ ap (λ (k : ℕ). makes (S .own) (viewOf k) block priority (seenAt S p (viewOf k)) (actAt (placeIn k))) (sym now)
+        ∙ ap (λ (k : ℕ). makes (S .own) (viewOf k) block priority (seenAt S p (viewOf k) (actAt (placeIn k))) (actAt (placeIn k))) (sym now)
 
-    decided-same : decides (seenOf (over s) (viewOf beat)) (actAt (placeIn beat)) ≡ decidedBy S p
+    decided-same : decides (seenOf (over s) (viewOf beat) (actAt (placeIn beat))) (actAt (placeIn beat)) ≡ decidedBy S p
     unfolding decidedBy
     decided-same =
-        ap (λ (x : Seen). decides x (actAt (placeIn beat))) (over-seen s (viewOf beat))
+        ap (λ (x : Seen). decides x (actAt (placeIn beat))) (over-seen s (viewOf beat) (actAt (placeIn beat)))
         ∙ decides-same S s p t block priority beat next (viewOf beat) (placeIn beat) refl refl
-        ∙ ap (λ (k : ℕ). decides (seenAt S p (viewOf k)) (actAt (placeIn k))) (sym now)
+        ∙ ap (λ (k : ℕ). decides (seenAt S p (viewOf k) (actAt (placeIn k))) (actAt (placeIn k))) (sym now)
 
     module _ (typed : (block .name < 2 ^ 64) × (block .count < 2 ^ 16) × (priority < 2 ^ 64)) where
       -- what is made is filed in both
@@ -190,7 +188,7 @@ module _ (S : Seat) (s : State) (p : History) (t : Tie S s p) (busy : p .gatheri
           let lo : S .own < S .terms .n = let a = t .fine .own in let c = t .own-is in let f = t .n-is in omega arith in
           let w = made-good S block priority lo (typed .0) (typed .1) (typed .2) p (t .good) m (sym e) in
           let l = started t busy in
-          let o : openTo m beat ≡ true = made-open (s .bench .own) (viewOf beat) (placeIn beat) block priority (seenOf (over s) (viewOf beat)) m beat refl refl (made-same ∙ sym e) in
+          let o : openTo m beat ≡ true = made-open (s .bench .own) (viewOf beat) (placeIn beat) block priority (seenOf (over s) (viewOf beat) (actAt (placeIn beat))) m beat refl refl (made-same ∙ sym e) in
           let same : beatOf (x .bench) ≡ beat = ap (λ (k : ℕ). k - 1) nx in
           file-tie S x q h (bytesOf m) (omega arith) m w (carries-read (S .terms .n) (bytesOf m) m (read-written (S .terms .n) m w)) (ap (openTo m) same ∙ o) .1
 

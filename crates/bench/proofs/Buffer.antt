@@ -21,13 +21,13 @@ use Rattle.message.proofs.ListedLaws.{length-at}
 use Rattle.message.proofs.PartLaws.{put-front}
 use Rattle.message.proofs.WrittenFields.{length-message}
 use Rattle.agreement.specs.Limits.{mostSenders, placeOf}
-use Rattle.agreement.specs.Sets.{count, ones, member}
+use Rattle.agreement.specs.Sets.{count, ones, member, isYes}
 use Rattle.agreement.specs.Reading.{longest}
-use Rattle.agreement.specs.Record.{filedLog, lacksRoom, overlong, readingOf}
-use Rattle.agreement.specs.Grades.{gradeAmong, gradeOne}
+use Rattle.agreement.specs.Record.{filedLog, lacksRoom, overlong, readingOf, Agreement, two, snapshotAt}
+use Rattle.agreement.specs.Grades.{gradeAmong, gradeBy}
 use Rattle.agreement.specs.Kept.{nothing, only, differing, Proposed, keptProposal}
-use Rattle.agreement.specs.declared.Agreement.{Agreement}
-use Rattle.agreement.specs.declared.Proposals.{Proposals}
+use Rattle.agreement.specs.declared.Snapshot.{Snapshot}
+use Rattle.agreement.specs.Proposals.{Proposals}
 use Rattle.agreement.proofs.SetLaws.{weigh-none}
 use Rattle.agreement.proofs.ReadingLaws.{grade-supporter}
 use Rattle.agreement.proofs.LongestLaws.{longest-iff, record-heard}
@@ -36,9 +36,8 @@ use Rattle.bench.specs.Layout.{logsPlace, proposalsPlace, mostBytes, sho
 use Rattle.bench.specs.Calendar.{lastBeat, viewOf, placeIn, Act, proposing, voting, deciding, snapping, actAt}
 use Rattle.bench.specs.Calls.{Reply, refused, done, took, acted, State, openTo}
 use Rattle.bench.specs.Acts.{mayPropose, propose, vote, isView, inViews, makes, outAfter}
-use Rattle.bench.specs.Record.{agreementOf, proposalsOf, beatOf, notAboveLast, idle, tooLong, badProposer, anyPlace, beyondProposals, beyond}
-use Rattle.bench.specs.ByRecord.{beginOf, receives, receiveOf, lockOf, seenOf, over, actedOf, actOf}
-use Rattle.bench.specs.declared.Bench.{Bench}
+use Rattle.bench.specs.Record.{agreementOf, proposalsOf, beatOf, notAboveLast, idle, tooLong, badProposer, anyPlace, beyondProposals, beyond, Bench}
+use Rattle.bench.specs.ByRecord.{beginOf, receives, receiveOf, usedOf, seenOf, over, actedOf, actOf}
 use Rattle.bench.proofs.TestedLaws.{within-limits}
 use Rattle.bench.proofs.Fine.{no-place}
 use Rattle.bench.proofs.FineAgreements.{getD-all}
@@ -53,7 +52,7 @@ madeIn (acted m) = m
 
 -- ---- logs that are read have 64 blocks at the most
 
-graded-short : (names counts : List ℕ) (base : ℕ) (g : Agreement) (among : List Bool) (L : Log) → gradeAmong names counts base g among ≡ some L
+graded-short : (names counts : List ℕ) (base : ℕ) (g : Agreement) (among : ℕ) (L : Log) → gradeAmong names counts base g among ≡ some L
     → length L ≤ mostBlocks
 unfolding gradeAmong overlong
 graded-short names counts base g among L e =
@@ -71,16 +70,16 @@ graded-short names counts base g among L e =
     let n = length-at names counts (placeOf base i) (getD (g .lengths) i 0) in
     omega arith)
 
-one-short : (names counts : List ℕ) (base : ℕ) (g : Agreement) (L : Log) → gradeOne names counts base g ≡ some L → length L ≤ mostBlocks
-one-short names counts base g L e =
-    either (g .hastwo)
-    (λ t. graded-short names counts base g (g .two) L (subst (λ (b : Bool). pick b (gradeAmong names counts base g (g .two)) none ≡ some L) t e))
+by-short : (names counts : List ℕ) (base : ℕ) (g : Agreement) (x : Snapshot) (L : Log) → gradeBy names counts base g x ≡ some L → length L ≤ mostBlocks
+by-short names counts base g x L e =
+    either (isYes (x .taken))
+    (λ t. graded-short names counts base g (x .senders) L (subst (λ (b : Bool). pick b (gradeAmong names counts base g (x .senders)) none ≡ some L) t e))
     (λ t. absurd (Option·none-ne-some L (rw t at e)))
 
-lock-short : (s : State) (v : ℕ) (L : Log) → lockOf s v ≡ some L → length L ≤ mostBlocks
-unfolding lockOf
+lock-short : (s : State) (v : ℕ) (L : Log) → usedOf s v voting ≡ some L → length L ≤ mostBlocks
+unfolding usedOf
 lock-short s zero L e = subst (λ (M : Log). length M ≤ mostBlocks) (Option·some-injective [] L e) (omega arith)
-lock-short s (suc u) L e = one-short (s .lent .names) (s .lent .counts) (logsPlace u) (agreementOf (s .bench) u) L e
+lock-short s (suc u) L e = by-short (s .lent .names) (s .lent .counts) (logsPlace u) (agreementOf (s .bench) u) (snapshotAt two (agreementOf (s .bench) u .marks)) L e
 
 -- what is kept is one proposal, or not
 same-only : (a b : Proposed) → only a ≡ only b → a ≡ b
@@ -97,8 +96,8 @@ kept-length : (names counts : List ℕ) (base : ℕ) (g : Proposals) (i : ℕ) (
 unfolding keptProposal
 kept-length names counts base g i a e =
     let own : Proposed = record { log = filedLog names counts base (g .lengths) i; priority = getD (g .priorities) i 0 } in
-    either (member (g .aside) i) (λ t. differing-apart a (rw t at e)) (λ t.
-    either (member (g .filed) i)
+    either (member (g .marks .aside) i) (λ t. differing-apart a (rw t at e)) (λ t.
+    either (member (g .marks .filed) i)
     (λ f. ap (λ (b : Proposed). length (b .log)) (sym (same-only own a (rw (t, f) at e))) ∙ length-at names counts (placeOf base i) (getD (g .lengths) i 0))
     (λ f. nothing-apart a (rw (t, f) at e)))
 
@@ -107,9 +106,9 @@ module _ (b : Bench) (e : beyondProposals (b .n) (b .proposals) ≡ false) where
   pub proposed-short : (v i : ℕ) → i < mostSenders → getD (proposalsOf b v .lengths) i 0 ≤ mostBlocks
   unfolding proposalsOf beyondProposals
   proposed-short v i h =
-      let none-bad = or-false (ltb lastView (b .proposals .view)) (anyPlace (badProposer (b .n) (b .proposals))) e .1 in
+      let none-bad = or-false (ltb lastView (b .proposals .marks .view)) (anyPlace (badProposer (b .n) (b .proposals))) e .1 in
       let one = or-false (tooLong (b .proposals .lengths) i) _ (no-place (badProposer (b .n) (b .proposals)) none-bad i h) .0 in
-      either (eqb (b .proposals .view) v)
+      either (eqb (b .proposals .marks .view) v)
       (λ t. rw t (ltb-false mostBlocks (getD (b .proposals .lengths) i 0) one))
       (λ t. rw t (let z = getD-all {A = ℕ} mostSenders i 0 in omega arith))
 
@@ -141,7 +140,7 @@ module _ (own v : ℕ) where
 
 module _ (s : State) (e : beyondProposals (s .bench .n) (s .bench .proposals) ≡ false) where
   -- the vote is the lock, or a proposal
-  chosen-short : (v : ℕ) (L : Log) → length L ≤ mostBlocks → length (seenOf s v .choose L) ≤ mostBlocks
+  chosen-short : (v : ℕ) (L : Log) → length L ≤ mostBlocks → length (seenOf s v voting .choose L) ≤ mostBlocks
   chosen-short v L h =
       let kept = keptProposal (s .lent .names) (s .lent .counts) proposalsPlace (proposalsOf (s .bench) v) in
       elim (vote-from mostSenders kept L) [
@@ -152,13 +151,13 @@ module _ (s : State) (e : beyondProposals (s .bench .n) (s .bench .proposals) �
             rw (t .voted) (omega arith)
       ]
 
-  makes-short : (own v : ℕ) (block : Block) (priority : ℕ) (a : Act) → Short (makes own v block priority (seenOf s v) a)
+  makes-short : (own v : ℕ) (block : Block) (priority : ℕ) (a : Act) → Short (makes own v block priority (seenOf s v a) a)
   unfolding makes
   makes-short own v block priority proposing =
-      in-views-short own v (propose own v block priority (seenOf s v .candidate)) (propose-short own v block priority (seenOf s v .candidate))
+      in-views-short own v (propose own v block priority (usedOf s v proposing)) (propose-short own v block priority (usedOf s v proposing))
   makes-short own v block priority voting =
-      in-views-short own v (vote own v (seenOf s v .choose) (lockOf s v))
-      (vote-short own v (seenOf s v .choose) (lockOf s v) (λ L q. chosen-short v L (lock-short s v L q)))
+      in-views-short own v (vote own v (seenOf s v voting .choose) (usedOf s v voting))
+      (vote-short own v (seenOf s v voting .choose) (usedOf s v voting) (λ L q. chosen-short v L (lock-short s v L q)))
   makes-short own v block priority deciding = tt
   makes-short own v block priority snapping = tt
 
@@ -213,7 +212,7 @@ module _ (s : State) (block : Block) (priority : ℕ) (out : List ℕ) where
       either (idle (s .bench)) (λ h. rw (e, f, g, h) tt) (λ h.
       let v = viewOf (beatOf (s .bench)) in
       let a = actAt (placeIn (beatOf (s .bench))) in
-      rw (e, f, g, h) (fits out (makes (s .bench .own) v block priority (seenOf (over s) v) a)
+      rw (e, f, g, h) (fits out (makes (s .bench .own) v block priority (seenOf (over s) v a) a)
       (makes-short (over s) (within-limits (s .bench) e .1) (s .bench .own) v block priority a)
       (ltb-false (length out) mostBytes g))))))
 

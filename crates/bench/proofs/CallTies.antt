@@ -15,22 +15,20 @@ use Rattle.message.proofs.ListedLaws.{log-empty}
 use Rattle.message.proofs.Acceptance.{accepted as read-accepted, said-in}
 use Rattle.message.proofs.Codec.{read-writable}
 use Rattle.message.proofs.Inside.{holds-accepted}
-use Rattle.agreement.specs.Record.{emptyAgreement}
-use Rattle.agreement.specs.Proposals.{emptyProposals}
-use Rattle.agreement.specs.declared.Agreement.{Agreement}
-use Rattle.agreement.specs.declared.Proposals.{Proposals}
+use Rattle.agreement.specs.Sets.{isYes}
+use Rattle.agreement.specs.Record.{emptyAgreement, Agreement}
+use Rattle.agreement.specs.Proposals.{emptyProposals, Proposals}
 use Rattle.bench.specs.Terms.{Terms, Seat, seatOf}
-use Rattle.bench.specs.Layout.{isEven, decidedPlace, leastLent, Lent, shortLists, outOfRange}
+use Rattle.bench.specs.Layout.{decidedPlace, leastLent, Lent, shortLists, outOfRange}
 use Rattle.bench.specs.Calendar.{lastBeat}
 use Rattle.bench.specs.Calls.{Call, begin, receive, refused, took, Step, openTo, State}
 use Rattle.bench.specs.History.{History, fresh, orZero, beatNow, notAbove, refusal, wordFor, accepted, answer, acceptedAnswer, step, standIn}
-use Rattle.bench.specs.Record.{freshBench, agreementOf, proposalsOf, beatOf, notAboveLast, idle, beyond}
+use Rattle.bench.specs.Record.{freshBench, ofView, agreementOf, proposalsOf, beatOf, notAboveLast, idle, beyond, Bench}
 use Rattle.bench.specs.ByRecord.{refuse, begun, beginOf, fileMessage, taken, receives, receiveOf}
-use Rattle.bench.specs.declared.Bench.{Bench}
 use Rattle.bench.proofs.TestedLaws.{lists-roomy}
 use Rattle.bench.proofs.Fine.{not-beyond}
 use Rattle.bench.proofs.FineBench.{fresh-fine, begun-fine}
-use Rattle.bench.proofs.Slots.{empty-of-view, begun-open, begun-proposals-open}
+use Rattle.bench.proofs.Slots.{empty-of-view, in-slot, begun-open, begun-proposals-open}
 use Rattle.bench.proofs.GoodHistory.{fresh-good}
 use Rattle.bench.proofs.Ties.{Holds, HoldsProposals, Since, lastOf, Tie}
 use Rattle.bench.proofs.Filling.{holds-same, empty-holds, empty-proposals-holds}
@@ -76,8 +74,8 @@ module _ {S : Seat} {s : State} {p : History} (t : Tie S s p) where
   pub started : p .gathering ≡ true → 0 < s .bench .next
   started g = go (s .bench .next) (t .gathering-is ∙ g)
     where
-      go : (next : ℕ) → not (not (s .bench .gathering) || eqb next 0) ≡ true → 0 < next
-      go zero e = absurd (no (s .bench .gathering) e)
+      go : (next : ℕ) → not (not (isYes (s .bench .gathering)) || eqb next 0) ≡ true → 0 < next
+      go zero e = absurd (no (isYes (s .bench .gathering)) e)
         where
           no : (a : Bool) → not (not a || true) ≡ true → ⊥
           no true f = false≢true f
@@ -111,7 +109,7 @@ module _ (S : Seat) (s : State) (p : History) (t : Tie S s p) (beat : ℕ) where
         record {
           views = λ v i o.
               subst (λ (g : Agreement). Holds (s .lent) g (accepted S p (begin beat)) v) (sym (begun-open (s .bench) beat v (omega arith)))
-              (holds-same (record { logs = λ j. refl; one = refl; two = refl }) (t .filled .views v i (omega arith)));
+              (holds-same (record { logs = λ j. refl; acts = λ k. refl }) (t .filled .views v i (omega arith)));
           proposals = λ v i o.
               subst (λ (g : Proposals). HoldsProposals (s .lent) g (accepted S p (begin beat)) v) (sym (begun-proposals-open (s .bench) beat v (omega arith)))
               (t .filled .proposals v i (omega arith));
@@ -211,7 +209,7 @@ open-tie T own l r h names counts =
     }
   where
     fresh-agreement : (v : ℕ) → agreementOf (freshBench (T .n) own) v ≡ emptyAgreement v
-    fresh-agreement v = either (isEven v) (λ e. rw e (empty-of-view 0 v)) (λ e. rw e (empty-of-view 0 v))
+    fresh-agreement v = in-slot (λ (g : Agreement). ofView g v ≡ emptyAgreement v) (freshBench (T .n) own) v (empty-of-view 0 v) (empty-of-view 0 v)
 
     fresh-proposals : (v : ℕ) → proposalsOf (freshBench (T .n) own) v ≡ emptyProposals v
     fresh-proposals v = either (eqb 0 v) (λ e. rw e (ap emptyProposals (eqb-true 0 v e))) (λ e. rw e)

@@ -10,18 +10,15 @@ use mathlib.Core.Path.{_≡_, sym, ap, subst, _∙_}
 use Rattle.message.specs.Limits.{mostBlocks}
 use Rattle.message.proofs.TestLaws.{either}
 use Rattle.agreement.specs.Limits.{mostSenders, span}
-use Rattle.agreement.specs.Record.{emptyAgreement}
-use Rattle.agreement.specs.Proposals.{emptyProposals}
+use Rattle.agreement.specs.Record.{emptyAgreement, Agreement, SnapshotNumber, one, two}
+use Rattle.agreement.specs.Proposals.{emptyProposals, Proposals}
 use Rattle.agreement.specs.Heard.{heardLogs, heardProposals}
-use Rattle.agreement.specs.declared.Agreement.{Agreement}
-use Rattle.agreement.specs.declared.Proposals.{Proposals}
 use Rattle.agreement.proofs.ElsewhereLaws.{Apart, Elsewhere, kept-elsewhere, proposal-kept-elsewhere}
 use Rattle.agreement.proofs.KeptOfLaws.{heard-no-view, proposals-no-view}
 use Rattle.bench.specs.Layout.{isEven, logsPlace, proposalsPlace, decidedPlace, Lent}
-use Rattle.bench.specs.Calendar.{lastView, viewBeat, inputBeat, snapshotOneBeat, snapshotTwoBeat, closeBeat}
+use Rattle.bench.specs.Calendar.{lastView, viewBeat, inputBeat, snapshotBeat, closeBeat}
 use Rattle.bench.specs.History.{History, heardAt, snapshotOf}
-use Rattle.bench.specs.Record.{agreementOf, withAgreement, proposalsOf, withProposals}
-use Rattle.bench.specs.declared.Bench.{Bench}
+use Rattle.bench.specs.Record.{agreementOf, withAgreement, proposalsOf, withProposals, Bench}
 use Rattle.bench.proofs.Fine.{FineAgreement, FineProposals, Fine}
 use Rattle.bench.proofs.Slots.{empty-kept, empty-proposal-kept, agreement-fine, proposals-fine, changed-own, changed-across, changed-beside, parity-apart, proposals-own, proposals-beside}
 use Rattle.bench.proofs.Ties.{Holds, HoldsProposals, Since, Filled, no-act}
@@ -43,8 +40,7 @@ module _ {n b w : ℕ} {l k : Lent} (d : Elsewhere b w (l .names) (l .counts) (k
   pub holds-elsewhere : (g : Agreement) (p : History) (v : ℕ) → n ≤ mostSenders → FineAgreement n g → Apart (logsPlace v) span b w → Holds l g p v → Holds k g p v
   holds-elsewhere g p v m f far h = record {
     logs = λ i. kept-elsewhere d (logsPlace v) far g (λ j. f .sender j .short) i (λ e. f .sender i .no-voter (omega arith)) ∙ h .logs i;
-    one = h .one;
-    two = h .two;
+    snapshots = h .snapshots;
   }
 
   pub proposals-elsewhere : (g : Proposals) (p : History) (v : ℕ) → n ≤ mostSenders → FineProposals n g → Apart proposalsPlace span b w
@@ -66,14 +62,12 @@ filled-decided {b} {l} {k} {p} f d h = record {
 
 pub record SameView (p q : History) (u : ℕ) : Type 0 where
   pub logs : (i : ℕ) → heardLogs (q .heard) u i ≡ heardLogs (p .heard) u i
-  pub one : heardAt (q .actions) (snapshotOneBeat u) ≡ heardAt (p .actions) (snapshotOneBeat u)
-  pub two : heardAt (q .actions) (snapshotTwoBeat u) ≡ heardAt (p .actions) (snapshotTwoBeat u)
+  pub acts : (k : SnapshotNumber) → heardAt (q .actions) (snapshotBeat k u) ≡ heardAt (p .actions) (snapshotBeat k u)
 
 pub holds-same : {l : Lent} {g : Agreement} {p q : History} {u : ℕ} → SameView p q u → Holds l g p u → Holds l g q u
 holds-same {u = u} s h = record {
   logs = λ i. h .logs i ∙ sym (s .logs i);
-  one = h .one ∙ ap (snapshotOf u) (sym (s .one));
-  two = h .two ∙ ap (snapshotOf u) (sym (s .two));
+  snapshots = λ k. h .snapshots k ∙ ap (snapshotOf u) (sym (s .acts k));
 }
 
 -- ---- nothing is held of a view whose time has not come
@@ -86,8 +80,10 @@ module _ {next : ℕ} {p : History} (since : Since next p) (u : ℕ) where
       λ c e. ap (snapshotOf u) (sym (no-act (p .actions) c (λ d i. let k = since .acts d i in omega arith))) in
       record {
         logs = λ i. empty-kept (l .names) (l .counts) (logsPlace u) u i ∙ sym (heard-no-view (p .heard) u i (λ m j e. let k = since .logs m j in omega arith));
-        one = none-at (snapshotOneBeat u) (omega arith);
-        two = none-at (snapshotTwoBeat u) (omega arith);
+        snapshots = λ (k : SnapshotNumber). elim k [
+          | one ↦ none-at (snapshotBeat one u) (omega arith)
+          | two ↦ none-at (snapshotBeat two u) (omega arith)
+        ];
       }
 
   pub empty-proposals-holds : (l : Lent) → next ≤ viewBeat u → HoldsProposals l (emptyProposals u) p u
@@ -98,7 +94,7 @@ module _ {next : ℕ} {p : History} (since : Since next p) (u : ℕ) where
 -- ---- the agreement of an open view changes, and the history with it
 
 module _ {b : Bench} {l k : Lent} {p q : History} (f : Fine b) (h : Filled b l p) (v : ℕ) (late : inputBeat v < b .next) (soon : b .next ≤ closeBeat v + 1)
-    (lists : Elsewhere (logsPlace v) span (l .names) (l .counts) (k .names) (k .counts)) (g : Agreement) (view : g .view ≡ v)
+    (lists : Elsewhere (logsPlace v) span (l .names) (l .counts) (k .names) (k .counts)) (g : Agreement) (view : g .marks .view ≡ v)
     (here : Holds k g q v) (there : (u : ℕ) → (u ≡ v → ⊥) → u ≤ lastView → SameView p q u) where
   -- another view of the parity is shut, or its time has not come
   beside-holds : (u : ℕ) → (u ≡ v → ⊥) → isEven u ≡ isEven v → u ≤ lastView → b .next ≤ closeBeat u + 1 → Holds k (emptyAgreement u) q u
@@ -123,7 +119,7 @@ module _ {b : Bench} {l k : Lent} {p q : History} (f : Fine b) (h : Filled b l p
 -- ---- the proposals change
 
 pub proposals-views : {b : Bench} {l : Lent} {p : History} (k : Lent) (q : History) → Filled b l p → (v : ℕ) → viewBeat v < b .next → b .next ≤ inputBeat v + 1
-    → (g : Proposals) → g .view ≡ v → HoldsProposals k g q v
+    → (g : Proposals) → g .marks .view ≡ v → HoldsProposals k g q v
     → ((u : ℕ) → (u ≡ v → ⊥) → (i : ℕ) → heardProposals (q .proposals) u i ≡ heardProposals (p .proposals) u i)
     → (u : ℕ) → b .next ≤ inputBeat u + 1 → HoldsProposals k (proposalsOf (withProposals b g) u) q u
 proposals-views {b} {l} {p} k q h v late soon g view here there u o = elim (ℕ-discrete u v) [

@@ -1,5 +1,5 @@
 -- What a record within its limits keeps to, as facts; and that refusal 9's test fails exactly where they hold. Assumes nothing.
-use Prim.Native.Nat.{ℕ, _+_, _≤_, _<_}
+use Prim.Native.Nat.{ℕ, _+_, _^_, _≤_, _<_}
 use native.Mathlib.Decide.{decLe}
 use native.Mathlib.Omega.{arith}
 use mathlib.Core.Bool.{Bool, true, false, not, _&&_, _||_, false≢true}
@@ -12,22 +12,21 @@ use Rattle.message.specs.Limits.{mostBlocks, lastView}
 use Rattle.message.proofs.TestLaws.{either, or-false}
 use Rattle.agreement.specs.Limits.{mostSenders}
 use Rattle.agreement.specs.Sets.{count, member}
-use Rattle.agreement.specs.Record.{isVoter, isEquivocator, isSender}
+use Rattle.agreement.specs.Record.{isVoter, isEquivocator, isSender, Agreement}
 use Rattle.agreement.specs.Kept.{Sized, SizedProposals}
-use Rattle.agreement.specs.declared.Agreement.{Agreement}
-use Rattle.agreement.specs.declared.Proposals.{Proposals}
+use Rattle.agreement.specs.Proposals.{Proposals}
 use Rattle.agreement.proofs.SetLaws.{Meet, weigh-some, weigh-none}
+use Rattle.agreement.proofs.MaskLaws.{member-past}
 use Rattle.bench.specs.Layout.{outOfRange}
 use Rattle.bench.specs.Calendar.{lastBeat}
-use Rattle.bench.specs.Record.{anyPlace, namesBeyond, inBoth, unheardOf, tooLong, badSender, beyondAgreement, badProposer, beyondProposals, beyond}
-use Rattle.bench.specs.declared.Bench.{Bench}
+use Rattle.bench.specs.Record.{anyPlace, namesBeyond, inBoth, unheardOf, tooLong, badSender, beyondAgreement, badProposer, beyondProposals, beyond, Bench}
 
--- ---- the arrays have a place for each of 32 senders, as the code's types say
+-- ---- the arrays have a place for each of 32 senders, and the sets name none beyond, as the code's types say
 
 pub record SizedAgreement (g : Agreement) : Type 0 where
   pub filed : Sized g
-  pub one : length (g .one) ≡ mostSenders
-  pub two : length (g .two) ≡ mostSenders
+  pub one : g .marks .one .senders < 2 ^ mostSenders
+  pub two : g .marks .two .senders < 2 ^ mostSenders
 
 pub record SizedBench (b : Bench) : Type 0 where
   pub even : SizedAgreement (b .even)
@@ -49,8 +48,8 @@ pub record FineSender (n i blocks : ℕ) (v e one two : Bool) : Type 0 where
 
 -- Past the arrays' ends a length reads as 0 and a set as empty, so the facts hold at every number.
 pub record FineAgreement (n : ℕ) (g : Agreement) : Type 0 where
-  pub view : g .view ≤ lastView
-  pub sender : (i : ℕ) → FineSender n i (getD (g .lengths) i 0) (isVoter g i) (isEquivocator g i) (member (g .one) i) (member (g .two) i)
+  pub view : g .marks .view ≤ lastView
+  pub sender : (i : ℕ) → FineSender n i (getD (g .lengths) i 0) (isVoter g i) (isEquivocator g i) (member (g .marks .one .senders) i) (member (g .marks .two .senders) i)
   pub sized : SizedAgreement g
 
 -- Place i of the proposals: its length, and whether there is one, and whether it is set aside.
@@ -60,8 +59,8 @@ pub record FineProposer (n i blocks : ℕ) (filed aside : Bool) : Type 0 where
   pub not-aside : n ≤ i → aside ≡ false
 
 pub record FineProposals (n : ℕ) (g : Proposals) : Type 0 where
-  pub view : g .view ≤ lastView
-  pub proposer : (i : ℕ) → FineProposer n i (getD (g .lengths) i 0) (member (g .filed) i) (member (g .aside) i)
+  pub view : g .marks .view ≤ lastView
+  pub proposer : (i : ℕ) → FineProposer n i (getD (g .lengths) i 0) (member (g .marks .filed) i) (member (g .marks .aside) i)
   pub sized : SizedProposals g
 
 pub record Fine (b : Bench) : Type 0 where
@@ -126,38 +125,38 @@ module _ (n i : ℕ) where
   unheard b s h = off-and b (not s) (λ t. not-off s (h t))
 
   pub fine-sender : (g : Agreement) → badSender n g i ≡ false
-      → FineSender n i (getD (g .lengths) i 0) (isVoter g i) (isEquivocator g i) (member (g .one) i) (member (g .two) i)
+      → FineSender n i (getD (g .lengths) i 0) (isVoter g i) (isEquivocator g i) (member (g .marks .one .senders) i) (member (g .marks .two .senders) i)
   fine-sender g e =
       let a = or-false (tooLong (g .lengths) i) _ e in
-      let b = or-false (namesBeyond n (g .voters) i) _ (a .1) in
-      let c = or-false (namesBeyond n (g .equivocators) i) _ (b .1) in
-      let d = or-false (namesBeyond n (g .one) i) _ (c .1) in
-      let f = or-false (namesBeyond n (g .two) i) _ (d .1) in
+      let b = or-false (namesBeyond n (g .marks .voters) i) _ (a .1) in
+      let c = or-false (namesBeyond n (g .marks .equivocators) i) _ (b .1) in
+      let d = or-false (namesBeyond n (g .marks .one .senders) i) _ (c .1) in
+      let f = or-false (namesBeyond n (g .marks .two .senders) i) _ (d .1) in
       let h = or-false (inBoth g i) _ (f .1) in
-      let k = or-false (unheardOf g (g .one) i) _ (h .1) in
+      let k = or-false (unheardOf g (g .marks .one .senders) i) _ (h .1) in
       record {
         short = ltb-false mostBlocks (getD (g .lengths) i 0) (a .0);
         no-voter = below (isVoter g i) (b .0);
         no-equivocator = below (isEquivocator g i) (c .0);
-        not-in-one = below (member (g .one) i) (d .0);
-        not-in-two = below (member (g .two) i) (f .0);
+        not-in-one = below (member (g .marks .one .senders) i) (d .0);
+        not-in-two = below (member (g .marks .two .senders) i) (f .0);
         apart = and-off (isVoter g i) (isEquivocator g i) (h .0);
-        one-heard = heard (member (g .one) i) (isSender g i) (k .0);
-        two-heard = heard (member (g .two) i) (isSender g i) (k .1);
+        one-heard = heard (member (g .marks .one .senders) i) (isSender g i) (k .0);
+        two-heard = heard (member (g .marks .two .senders) i) (isSender g i) (k .1);
       }
 
   pub not-bad : (g : Agreement)
-      → FineSender n i (getD (g .lengths) i 0) (isVoter g i) (isEquivocator g i) (member (g .one) i) (member (g .two) i)
+      → FineSender n i (getD (g .lengths) i 0) (isVoter g i) (isEquivocator g i) (member (g .marks .one .senders) i) (member (g .marks .two .senders) i)
       → badSender n g i ≡ false
   not-bad g f =
       off-or (tooLong (g .lengths) i) _ (le-ltb mostBlocks (getD (g .lengths) i 0) (f .short))
-      (off-or (namesBeyond n (g .voters) i) _ (named (isVoter g i) (f .no-voter))
-      (off-or (namesBeyond n (g .equivocators) i) _ (named (isEquivocator g i) (f .no-equivocator))
-      (off-or (namesBeyond n (g .one) i) _ (named (member (g .one) i) (f .not-in-one))
-      (off-or (namesBeyond n (g .two) i) _ (named (member (g .two) i) (f .not-in-two))
+      (off-or (namesBeyond n (g .marks .voters) i) _ (named (isVoter g i) (f .no-voter))
+      (off-or (namesBeyond n (g .marks .equivocators) i) _ (named (isEquivocator g i) (f .no-equivocator))
+      (off-or (namesBeyond n (g .marks .one .senders) i) _ (named (member (g .marks .one .senders) i) (f .not-in-one))
+      (off-or (namesBeyond n (g .marks .two .senders) i) _ (named (member (g .marks .two .senders) i) (f .not-in-two))
       (off-or (inBoth g i) _ (off-and (isVoter g i) (isEquivocator g i) (f .apart))
-      (off-or (unheardOf g (g .one) i) _ (unheard (member (g .one) i) (isSender g i) (f .one-heard))
-      (unheard (member (g .two) i) (isSender g i) (f .two-heard))))))))
+      (off-or (unheardOf g (g .marks .one .senders) i) _ (unheard (member (g .marks .one .senders) i) (isSender g i) (f .one-heard))
+      (unheard (member (g .marks .two .senders) i) (isSender g i) (f .two-heard))))))))
 
 -- ---- one agreement, and the proposals
 
@@ -185,13 +184,13 @@ module _ (n : ℕ) (g : Agreement) where
   pub fine-agreement : beyondAgreement n g ≡ false → SizedAgreement g → FineAgreement n g
   unfolding beyondAgreement
   fine-agreement e z =
-      let a = or-false (ltb lastView (g .view)) (anyPlace (badSender n g)) e in
+      let a = or-false (ltb lastView (g .marks .view)) (anyPlace (badSender n g)) e in
       record {
-        view = ltb-false lastView (g .view) (a .0);
+        view = ltb-false lastView (g .marks .view) (a .0);
         sender = λ i. elim (decLe mostSenders i) [
           | yes h ↦ nothing-fine n i _ _ _ _ _
-              (past (g .lengths) i 0 (z .filed .lengths) h) (past (g .voters) i false (z .filed .voters) h)
-              (past (g .equivocators) i false (z .filed .equivocators) h) (past (g .one) i false (z .one) h) (past (g .two) i false (z .two) h)
+              (past (g .lengths) i 0 (z .filed .lengths) h) (member-past (g .marks .voters) mostSenders i (z .filed .voters) h)
+              (member-past (g .marks .equivocators) mostSenders i (z .filed .equivocators) h) (member-past (g .marks .one .senders) mostSenders i (z .one) h) (member-past (g .marks .two .senders) mostSenders i (z .two) h)
           | no h ↦ fine-sender n i g (no-place (badSender n g) (a .1) i (omega arith))
         ];
         sized = z;
@@ -200,32 +199,32 @@ module _ (n : ℕ) (g : Agreement) where
   pub agreement-not-beyond : FineAgreement n g → beyondAgreement n g ≡ false
   unfolding beyondAgreement
   agreement-not-beyond f =
-      off-or (ltb lastView (g .view)) _ (le-ltb lastView (g .view) (f .view)) (none-placed (badSender n g) (λ i h. not-bad n i g (f .sender i)))
+      off-or (ltb lastView (g .marks .view)) _ (le-ltb lastView (g .marks .view) (f .view)) (none-placed (badSender n g) (λ i h. not-bad n i g (f .sender i)))
 
 module _ (n : ℕ) (g : Proposals) where
-  pub fine-proposer : (i : ℕ) → badProposer n g i ≡ false → FineProposer n i (getD (g .lengths) i 0) (member (g .filed) i) (member (g .aside) i)
+  pub fine-proposer : (i : ℕ) → badProposer n g i ≡ false → FineProposer n i (getD (g .lengths) i 0) (member (g .marks .filed) i) (member (g .marks .aside) i)
   fine-proposer i e =
       let a = or-false (tooLong (g .lengths) i) _ e in
-      let b = or-false (namesBeyond n (g .filed) i) (namesBeyond n (g .aside) i) (a .1) in
+      let b = or-false (namesBeyond n (g .marks .filed) i) (namesBeyond n (g .marks .aside) i) (a .1) in
       record {
         short = ltb-false mostBlocks (getD (g .lengths) i 0) (a .0);
-        not-filed = below n i (member (g .filed) i) (b .0);
-        not-aside = below n i (member (g .aside) i) (b .1);
+        not-filed = below n i (member (g .marks .filed) i) (b .0);
+        not-aside = below n i (member (g .marks .aside) i) (b .1);
       }
 
-  proposer-not-bad : (i : ℕ) → FineProposer n i (getD (g .lengths) i 0) (member (g .filed) i) (member (g .aside) i) → badProposer n g i ≡ false
+  proposer-not-bad : (i : ℕ) → FineProposer n i (getD (g .lengths) i 0) (member (g .marks .filed) i) (member (g .marks .aside) i) → badProposer n g i ≡ false
   proposer-not-bad i f =
       off-or (tooLong (g .lengths) i) _ (le-ltb mostBlocks (getD (g .lengths) i 0) (f .short))
-      (off-or (namesBeyond n (g .filed) i) _ (named n i (member (g .filed) i) (f .not-filed)) (named n i (member (g .aside) i) (f .not-aside)))
+      (off-or (namesBeyond n (g .marks .filed) i) _ (named n i (member (g .marks .filed) i) (f .not-filed)) (named n i (member (g .marks .aside) i) (f .not-aside)))
 
   pub fine-proposals : beyondProposals n g ≡ false → SizedProposals g → FineProposals n g
   unfolding beyondProposals
   fine-proposals e z =
-      let a = or-false (ltb lastView (g .view)) (anyPlace (badProposer n g)) e in
+      let a = or-false (ltb lastView (g .marks .view)) (anyPlace (badProposer n g)) e in
       record {
-        view = ltb-false lastView (g .view) (a .0);
+        view = ltb-false lastView (g .marks .view) (a .0);
         proposer = λ i. elim (decLe mostSenders i) [
-          | yes h ↦ unfiled-fine n i _ _ _ (past (g .lengths) i 0 (z .lengths) h) (past (g .filed) i false (z .filed) h) (past (g .aside) i false (z .aside) h)
+          | yes h ↦ unfiled-fine n i _ _ _ (past (g .lengths) i 0 (z .lengths) h) (member-past (g .marks .filed) mostSenders i (z .filed) h) (member-past (g .marks .aside) mostSenders i (z .aside) h)
           | no h ↦ fine-proposer i (no-place (badProposer n g) (a .1) i (omega arith))
         ];
         sized = z;
@@ -234,7 +233,7 @@ module _ (n : ℕ) (g : Proposals) where
   pub proposals-not-beyond : FineProposals n g → beyondProposals n g ≡ false
   unfolding beyondProposals
   proposals-not-beyond f =
-      off-or (ltb lastView (g .view)) _ (le-ltb lastView (g .view) (f .view)) (none-placed (badProposer n g) (λ i h. proposer-not-bad i (f .proposer i)))
+      off-or (ltb lastView (g .marks .view)) _ (le-ltb lastView (g .marks .view) (f .view)) (none-placed (badProposer n g) (λ i h. proposer-not-bad i (f .proposer i)))
 
 -- ---- the record
 

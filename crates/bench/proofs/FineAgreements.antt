@@ -1,6 +1,6 @@
 -- An agreement stays within its limits: with nothing filed, after each change of it, and so after filing. Its arrays keep their 32 places
 -- (`sized`). Assumes nothing.
-use Prim.Native.Nat.{ℕ, zero, suc, _≤_, _<_}
+use Prim.Native.Nat.{ℕ, zero, suc, _^_, _≤_, _<_}
 use native.Mathlib.Omega.{arith}
 use mathlib.Core.Bool.{Bool, true, false, _&&_, _||_, false≢true}
 use mathlib.Core.List.{List}
@@ -14,12 +14,12 @@ use Rattle.message.specs.Logs.{sameLog}
 use Rattle.message.specs.Message.{countIn, logIn}
 use Rattle.message.proofs.TestLaws.{either, or-false}
 use Rattle.agreement.specs.Limits.{mostSenders}
-use Rattle.agreement.specs.Sets.{member}
-use Rattle.agreement.specs.Record.{emptyAgreement, isVoter, isEquivocator, filedLog, withFirst, withSecond, withOne, withTwo}
+use Rattle.agreement.specs.Sets.{member, adding, removing}
+use Rattle.agreement.specs.Record.{emptyAgreement, isVoter, isEquivocator, filedLog, withFirst, withSecond, SnapshotNumber, one, two, withSnapshot, Agreement}
 use Rattle.agreement.specs.Filing.{Fit, unfit, fileOf}
-use Rattle.agreement.specs.declared.Agreement.{Agreement}
 use Rattle.agreement.proofs.FilingLaws.{fit, few-blocks}
 use Rattle.agreement.proofs.KeptLaws.{cases}
+use Rattle.agreement.proofs.MaskLaws.{member-zero, adding-lt, adding-same, adding-other, removing-lt, removing-same, removing-other}
 use Rattle.bench.proofs.Fine.{FineSender, FineAgreement, nothing-fine}
 
 -- ---- nothing filed
@@ -29,14 +29,18 @@ getD-all zero i a = refl
 getD-all (suc m) zero a = refl
 getD-all (suc m) (suc i) a = getD-all m i a
 
+-- the empty set names no sender beyond
+pub nobody : 0 < 2 ^ mostSenders
+nobody = omega arith
+
 pub empty-fine : (n v : ℕ) → v ≤ lastView → FineAgreement n (emptyAgreement v)
 empty-fine n v h = record {
   view = h;
-  sender = λ i. nothing-fine n i _ _ _ _ _ (getD-all mostSenders i 0) (getD-all mostSenders i false) (getD-all mostSenders i false) (getD-all mostSenders i false) (getD-all mostSenders i false);
+  sender = λ i. nothing-fine n i _ _ _ _ _ (getD-all mostSenders i 0) (member-zero i) (member-zero i) (member-zero i) (member-zero i);
   sized = record {
-    filed = record { lengths = length-replicate {A = ℕ} mostSenders 0; voters = length-replicate mostSenders false; equivocators = length-replicate mostSenders false };
-    one = length-replicate mostSenders false;
-    two = length-replicate mostSenders false;
+    filed = record { lengths = length-replicate {A = ℕ} mostSenders 0; voters = nobody; equivocators = nobody };
+    one = nobody;
+    two = nobody;
   };
 }
 
@@ -54,7 +58,7 @@ or-left false b e = absurd (false≢true e)
 
 -- a sender of one log
 voter-fine : (n i k : ℕ) (e one two : Bool) → i < n → k ≤ mostBlocks → e ≡ false → FineSender n i k true e one two
-voter-fine n i k e one two h l q = record {
+voter-fine n i k e a b h l q = record {
   short = l;
   no-voter = λ x. absurd (omega arith);
   no-equivocator = λ x. q;
@@ -67,7 +71,7 @@ voter-fine n i k e one two h l q = record {
 
 -- a sender of two
 equivocator-fine : (n i k : ℕ) (one two : Bool) → i < n → k ≤ mostBlocks → FineSender n i k false true one two
-equivocator-fine n i k one two h l = record {
+equivocator-fine n i k a b h l = record {
   short = l;
   no-voter = λ x. refl;
   no-equivocator = λ x. absurd (omega arith);
@@ -87,17 +91,17 @@ module _ (n : ℕ) (g : Agreement) (f : FineAgreement n g) where
     module _ (k : ℕ) (few : k ≤ mostBlocks) (e : isEquivocator g i ≡ false) where
       abbrev FirstAt : ℕ → Type 0
       FirstAt j =
-          FineSender n j (getD (set (g .lengths) i k) j 0) (getD (set (g .voters) i true) j false) (isEquivocator g j) (member (g .one) j) (member (g .two) j)
+          FineSender n j (getD (set (g .lengths) i k) j 0) (member (adding (g .marks .voters) i) j) (isEquivocator g j) (member (g .marks .one .senders) j) (member (g .marks .two .senders) j)
 
       first-here : FirstAt i
       first-here =
           rw (
             getD-set-same (g .lengths) i k 0 (omega (arith, f .sized .filed .lengths)),
-            getD-set-same (g .voters) i true false (omega (arith, f .sized .filed .voters)),
-          ) (voter-fine n i k (isEquivocator g i) (member (g .one) i) (member (g .two) i) here few e)
+            adding-same (g .marks .voters) i,
+          ) (voter-fine n i k (isEquivocator g i) (member (g .marks .one .senders) i) (member (g .marks .two .senders) i) here few e)
 
       first-else : (j : ℕ) → (j ≡ i → ⊥) → FirstAt j
-      first-else j d = rw (getD-set-other (g .lengths) i j k 0 d, getD-set-other (g .voters) i j true false d) (f .sender j)
+      first-else j d = rw (getD-set-other (g .lengths) i j k 0 d, adding-other (g .marks .voters) i j d) (f .sender j)
 
       pub first-fine : FineAgreement n (withFirst g i k)
       first-fine = record {
@@ -106,7 +110,7 @@ module _ (n : ℕ) (g : Agreement) (f : FineAgreement n g) where
         sized = record {
           filed = record {
             lengths = length-set (g .lengths) i k ∙ f .sized .filed .lengths;
-            voters = length-set (g .voters) i true ∙ f .sized .filed .voters;
+            voters = adding-lt (g .marks .voters) i mostSenders (f .sized .filed .voters) room;
             equivocators = f .sized .filed .equivocators;
           };
           one = f .sized .one;
@@ -117,17 +121,17 @@ module _ (n : ℕ) (g : Agreement) (f : FineAgreement n g) where
     -- sender i's second log
     abbrev SecondAt : ℕ → Type 0
     SecondAt j =
-        FineSender n j (getD (g .lengths) j 0) (getD (set (g .voters) i false) j false) (getD (set (g .equivocators) i true) j false) (member (g .one) j) (member (g .two) j)
+        FineSender n j (getD (g .lengths) j 0) (member (removing (g .marks .voters) i) j) (member (adding (g .marks .equivocators) i) j) (member (g .marks .one .senders) j) (member (g .marks .two .senders) j)
 
     second-here : SecondAt i
     second-here =
         rw (
-          getD-set-same (g .voters) i false false (omega (arith, f .sized .filed .voters)),
-          getD-set-same (g .equivocators) i true false (omega (arith, f .sized .filed .equivocators)),
-        ) (equivocator-fine n i (getD (g .lengths) i 0) (member (g .one) i) (member (g .two) i) here (f .sender i .short))
+          removing-same (g .marks .voters) i,
+          adding-same (g .marks .equivocators) i,
+        ) (equivocator-fine n i (getD (g .lengths) i 0) (member (g .marks .one .senders) i) (member (g .marks .two .senders) i) here (f .sender i .short))
 
     second-else : (j : ℕ) → (j ≡ i → ⊥) → SecondAt j
-    second-else j d = rw (getD-set-other (g .voters) i j false false d, getD-set-other (g .equivocators) i j true false d) (f .sender j)
+    second-else j d = rw (removing-other (g .marks .voters) i j d, adding-other (g .marks .equivocators) i j d) (f .sender j)
 
     pub second-fine : FineAgreement n (withSecond g i)
     second-fine = record {
@@ -136,17 +140,17 @@ module _ (n : ℕ) (g : Agreement) (f : FineAgreement n g) where
       sized = record {
         filed = record {
           lengths = f .sized .filed .lengths;
-          voters = length-set (g .voters) i false ∙ f .sized .filed .voters;
-          equivocators = length-set (g .equivocators) i true ∙ f .sized .filed .equivocators;
+          voters = removing-lt (g .marks .voters) i mostSenders (f .sized .filed .voters);
+          equivocators = adding-lt (g .marks .equivocators) i mostSenders (f .sized .filed .equivocators) room;
         };
         one = f .sized .one;
         two = f .sized .two;
       };
     }
 
-  -- the snapshots
-  pub one-fine : FineAgreement n (withOne g)
-  one-fine = record {
+  -- a snapshot
+  pub snapshot-fine : (k : SnapshotNumber) → FineAgreement n (withSnapshot k g)
+  snapshot-fine one = record {
     view = f .view;
     sender = λ i. record {
       short = f .sender i .short;
@@ -164,9 +168,7 @@ module _ (n : ℕ) (g : Agreement) (f : FineAgreement n g) where
       two = f .sized .two;
     };
   }
-
-  pub two-fine : FineAgreement n (withTwo g)
-  two-fine = record {
+  snapshot-fine two = record {
     view = f .view;
     sender = λ i. record {
       short = f .sender i .short;

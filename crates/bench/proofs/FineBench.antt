@@ -5,16 +5,16 @@ use mathlib.Core.Bool.{false}
 use mathlib.Core.Path.{_≡_}
 use Rattle.message.specs.Limits.{mostBlocks}
 use Rattle.message.proofs.TestLaws.{either}
-use Rattle.agreement.specs.declared.Agreement.{Agreement}
-use Rattle.agreement.specs.declared.Proposals.{Proposals}
+use Rattle.agreement.specs.Record.{Agreement}
+use Rattle.agreement.specs.Proposals.{Proposals}
 use Rattle.bench.specs.Layout.{isEven, outOfRange}
 use Rattle.bench.specs.Calendar.{lastBeat, logsShut, proposalsShut}
-use Rattle.bench.specs.Record.{freshBench, withAgreement, withProposals, withGatheringOver, withDecided, withParted}
+use Rattle.bench.specs.Record.{freshBench, withAgreement, withProposals, withGatheringOver, withDecided, withParted, Bench}
 use Rattle.bench.specs.ByRecord.{keptAgreement, keptProposals, begunBench}
-use Rattle.bench.specs.declared.Bench.{Bench}
 use Rattle.bench.proofs.Fine.{FineAgreement, FineProposals, Fine, in-range}
 use Rattle.bench.proofs.FineAgreements.{empty-fine}
 use Rattle.bench.proofs.FineProposals.{empty-proposals-fine}
+use Rattle.bench.proofs.Slots.{picked}
 
 pub fresh-fine : (n own : ℕ) → outOfRange n own ≡ false → Fine (freshBench n own)
 fresh-fine n own e =
@@ -33,11 +33,11 @@ fresh-fine n own e =
 -- what a Begin leaves of an agreement, and of the proposals
 kept-fine : (n beat : ℕ) (g : Agreement) → FineAgreement n g → FineAgreement n (keptAgreement beat g)
 unfolding keptAgreement
-kept-fine n beat g f = either (logsShut (g .view) beat) (λ t. rw t (empty-fine n 0 (omega arith))) (λ t. rw t f)
+kept-fine n beat g f = either (logsShut (g .marks .view) beat) (λ t. rw t (empty-fine n 0 (omega arith))) (λ t. rw t f)
 
 kept-proposals-fine : (n beat : ℕ) (g : Proposals) → FineProposals n g → FineProposals n (keptProposals beat g)
 unfolding keptProposals
-kept-proposals-fine n beat g f = either (proposalsShut (g .view) beat) (λ t. rw t (empty-proposals-fine n 0 (omega arith))) (λ t. rw t f)
+kept-proposals-fine n beat g f = either (proposalsShut (g .marks .view) beat) (λ t. rw t (empty-proposals-fine n 0 (omega arith))) (λ t. rw t f)
 
 module _ (b : Bench) (f : Fine b) where
   pub begun-fine : (beat : ℕ) → beat ≤ lastBeat → Fine (begunBench b beat)
@@ -54,28 +54,16 @@ module _ (b : Bench) (f : Fine b) where
 
   pub with-agreement-fine : (v : ℕ) (g : Agreement) → FineAgreement (b .n) g → Fine (withAgreement b v g)
   unfolding withAgreement
-  with-agreement-fine v g h =
-      either (isEven v)
-      (λ t. rw t (record {
-        some = f .some;
-        few = f .few;
-        own = f .own;
-        next = f .next;
-        decided = f .decided;
-        even = h;
-        odd = f .odd;
-        proposals = f .proposals;
-      }))
-      (λ t. rw t (record {
-        some = f .some;
-        few = f .few;
-        own = f .own;
-        next = f .next;
-        decided = f .decided;
-        even = f .even;
-        odd = h;
-        proposals = f .proposals;
-      }))
+  with-agreement-fine v g h = record {
+    some = f .some;
+    few = f .few;
+    own = f .own;
+    next = f .next;
+    decided = f .decided;
+    even = picked (FineAgreement (b .n)) (isEven v) g (b .even) h (f .even);
+    odd = picked (FineAgreement (b .n)) (isEven v) (b .odd) g (f .odd) h;
+    proposals = f .proposals;
+  }
 
   pub with-proposals-fine : (g : Proposals) → FineProposals (b .n) g → Fine (withProposals b g)
   with-proposals-fine g h = record {

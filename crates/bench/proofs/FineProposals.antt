@@ -2,7 +2,7 @@
 -- (`sized`). Assumes nothing.
 use Prim.Native.Nat.{ℕ, _≤_, _<_}
 use native.Mathlib.Omega.{arith}
-use mathlib.Core.Bool.{true, false, _&&_, _||_}
+use mathlib.Core.Bool.{false, _&&_, _||_}
 use mathlib.Core.List.{List}
 use mathlib.Core.Path.{_≡_, _∙_}
 use lib.Dec.{eqb}
@@ -13,25 +13,25 @@ use Rattle.message.specs.Logs.{sameLog}
 use Rattle.message.specs.Message.{countIn, logIn}
 use Rattle.message.proofs.TestLaws.{or-false}
 use Rattle.agreement.specs.Limits.{mostSenders}
-use Rattle.agreement.specs.Sets.{member}
+use Rattle.agreement.specs.Sets.{member, adding}
 use Rattle.agreement.specs.Record.{filedLog}
 use Rattle.agreement.specs.Filing.{Fit, unfit}
-use Rattle.agreement.specs.Proposals.{emptyProposals, withProposal, withAside, fileProposalOf}
-use Rattle.agreement.specs.declared.Proposals.{Proposals}
+use Rattle.agreement.specs.Proposals.{emptyProposals, withProposal, withAside, fileProposalOf, Proposals}
 use Rattle.agreement.proofs.FilingLaws.{fit, few-blocks}
 use Rattle.agreement.proofs.KeptLaws.{cases}
 use Rattle.bench.proofs.Fine.{FineProposer, FineProposals, unfiled-fine}
-use Rattle.bench.proofs.FineAgreements.{getD-all, at-place}
+use Rattle.agreement.proofs.MaskLaws.{member-zero, adding-lt, adding-same, adding-other}
+use Rattle.bench.proofs.FineAgreements.{getD-all, nobody, at-place}
 
 pub empty-proposals-fine : (n v : ℕ) → v ≤ lastView → FineProposals n (emptyProposals v)
 empty-proposals-fine n v h = record {
   view = h;
-  proposer = λ i. unfiled-fine n i _ _ _ (getD-all mostSenders i 0) (getD-all mostSenders i false) (getD-all mostSenders i false);
+  proposer = λ i. unfiled-fine n i _ _ _ (getD-all mostSenders i 0) (member-zero i) (member-zero i);
   sized = record {
     lengths = length-replicate {A = ℕ} mostSenders 0;
     priorities = length-replicate {A = ℕ} mostSenders 0;
-    filed = length-replicate mostSenders false;
-    aside = length-replicate mostSenders false;
+    filed = nobody;
+    aside = nobody;
   };
 }
 
@@ -42,15 +42,15 @@ module _ (n : ℕ) (g : Proposals) (f : FineProposals n g) where
     -- sender i's first proposal
     module _ (k priority : ℕ) (few : k ≤ mostBlocks) where
       abbrev ProposalAt : ℕ → Type 0
-      ProposalAt j = FineProposer n j (getD (set (g .lengths) i k) j 0) (getD (set (g .filed) i true) j false) (member (g .aside) j)
+      ProposalAt j = FineProposer n j (getD (set (g .lengths) i k) j 0) (member (adding (g .marks .filed) i) j) (member (g .marks .aside) j)
 
       proposal-here : ProposalAt i
       proposal-here =
-          rw (getD-set-same (g .lengths) i k 0 (omega (arith, f .sized .lengths)), getD-set-same (g .filed) i true false (omega (arith, f .sized .filed)))
+          rw (getD-set-same (g .lengths) i k 0 (omega (arith, f .sized .lengths)), adding-same (g .marks .filed) i)
           (record { short = few; not-filed = λ x. absurd (omega arith); not-aside = λ x. absurd (omega arith) })
 
       proposal-else : (j : ℕ) → (j ≡ i → ⊥) → ProposalAt j
-      proposal-else j d = rw (getD-set-other (g .lengths) i j k 0 d, getD-set-other (g .filed) i j true false d) (f .proposer j)
+      proposal-else j d = rw (getD-set-other (g .lengths) i j k 0 d, adding-other (g .marks .filed) i j d) (f .proposer j)
 
       pub proposal-fine : FineProposals n (withProposal g i k priority)
       proposal-fine = record {
@@ -59,22 +59,22 @@ module _ (n : ℕ) (g : Proposals) (f : FineProposals n g) where
         sized = record {
           lengths = length-set (g .lengths) i k ∙ f .sized .lengths;
           priorities = length-set (g .priorities) i priority ∙ f .sized .priorities;
-          filed = length-set (g .filed) i true ∙ f .sized .filed;
+          filed = adding-lt (g .marks .filed) i mostSenders (f .sized .filed) room;
           aside = f .sized .aside;
         };
       }
 
     -- sender i's are set aside
     abbrev AsideAt : ℕ → Type 0
-    AsideAt j = FineProposer n j (getD (g .lengths) j 0) (member (g .filed) j) (getD (set (g .aside) i true) j false)
+    AsideAt j = FineProposer n j (getD (g .lengths) j 0) (member (g .marks .filed) j) (member (adding (g .marks .aside) i) j)
 
     aside-here : AsideAt i
     aside-here =
-        rw (getD-set-same (g .aside) i true false (omega (arith, f .sized .aside)))
+        rw (adding-same (g .marks .aside) i)
         (record { short = f .proposer i .short; not-filed = λ x. absurd (omega arith); not-aside = λ x. absurd (omega arith) })
 
     aside-else : (j : ℕ) → (j ≡ i → ⊥) → AsideAt j
-    aside-else j d = rw (getD-set-other (g .aside) i j true false d) (f .proposer j)
+    aside-else j d = rw (adding-other (g .marks .aside) i j d) (f .proposer j)
 
     pub aside-fine : FineProposals n (withAside g i)
     aside-fine = record {
@@ -84,7 +84,7 @@ module _ (n : ℕ) (g : Proposals) (f : FineProposals n g) where
         lengths = f .sized .lengths;
         priorities = f .sized .priorities;
         filed = f .sized .filed;
-        aside = length-set (g .aside) i true ∙ f .sized .aside;
+        aside = adding-lt (g .marks .aside) i mostSenders (f .sized .aside) room;
       };
     }
 
@@ -94,12 +94,12 @@ module _ (n : ℕ) (g : Proposals) (f : FineProposals n g) where
   unfolding fileProposalOf
   file-proposal-fine names counts base s i priority here =
       cases (FineProposals n (fileProposalOf g names counts base s i priority .proposals))
-      (unfit names counts base s i || member (g .aside) i) (member (g .filed) i)
+      (unfit names counts base s i || member (g .marks .aside) i) (member (g .marks .filed) i)
       (sameLog (logIn s) (filedLog names counts base (g .lengths) i) && eqb priority (getD (g .priorities) i 0))
       (λ q. rw q f)
       (λ q v e. rw (q, v, e) f)
       (λ q v e. rw (q, v, e) (aside-fine i (fits q .few) here))
       (λ q v. rw (q, v) (proposal-fine i (fits q .few) here (countIn s) priority (few-blocks names counts base s i (fits q))))
     where
-      fits : (unfit names counts base s i || member (g .aside) i) ≡ false → Fit names counts base s i
+      fits : (unfit names counts base s i || member (g .marks .aside) i) ≡ false → Fit names counts base s i
       fits q = fit names counts base s i (or-false (unfit names counts base s i) _ q .0)

@@ -24,7 +24,7 @@ use Rattle.bench.specs.Terms.{Seat, weightOf}
 use Rattle.bench.specs.Calendar.{viewOf, placeIn, Act, proposing, voting, deciding, snapping, actAt}
 use Rattle.bench.specs.Calls.{Call, begin, receive, act, Typed, AllTyped}
 use Rattle.bench.specs.Acts.{mayPropose, propose, vote, isView, inViews, makes, decides}
-use Rattle.bench.specs.History.{History, fresh, beatNow, refusal, file, candidateAt, lockAt, decisionAt, seenAt, madeBy, decidedBy, fileRead, fileMade, closed, accepted, orAccepted, step, afterFrom, after}
+use Rattle.bench.specs.History.{History, fresh, beatNow, refusal, file, gradeAt, usedAt, seenAt, madeBy, decidedBy, fileRead, fileMade, closed, accepted, orAccepted, step, afterFrom, after}
 
 -- every message taken or made is within the limits
 pub record GoodHistory (S : Seat) (p : History) : Type 0 where
@@ -104,22 +104,22 @@ module _ (S : Seat) (p : History) (g : GoodHistory S p) where
   graded-good u L s =
       prefix-good (s .extends) (writable-log (g .heard _ (heard-source (p .heard) u (s .sender) (s .log) (s .kept))))
 
-  pub candidate-good : (v : ℕ) (L : Log) → candidateAt S p v ≡ some L → GoodLog L
-  unfolding candidateAt
-  candidate-good zero L e = subst GoodLog (Option·some-injective [] L e) empty-good
-  candidate-good (suc u) L e = graded-good u L (gradeNow-source (S .terms .n) (weightOf (S .terms)) (heardLogs (p .heard) u) L e)
+  graded : (u k : ℕ) (L : Log) → gradeAt S p u k ≡ some L → GoodLog L
+  unfolding gradeAt
+  graded u zero L e = graded-good u L (gradeNow-source (S .terms .n) (weightOf (S .terms)) (heardLogs (p .heard) u) L e)
+  graded u (suc zero) L e = graded-good u L (gradeWith-source (S .terms .n) (weightOf (S .terms)) (heardLogs (p .heard) u) _ L e)
+  graded u (suc (suc k)) L e = graded-good u L (gradeWith-source (S .terms .n) (weightOf (S .terms)) (heardLogs (p .heard) u) _ L e)
 
-  pub lock-good : (v : ℕ) (L : Log) → lockAt S p v ≡ some L → GoodLog L
-  unfolding lockAt
-  lock-good zero L e = subst GoodLog (Option·some-injective [] L e) empty-good
-  lock-good (suc u) L e =
-      graded-good u L (gradeWith-source (S .terms .n) (weightOf (S .terms)) (heardLogs (p .heard) u) _ L e)
-
-  pub decision-good : (v : ℕ) (L : Log) → decisionAt S p v ≡ some L → GoodLog L
-  unfolding decisionAt
-  decision-good zero L e = absurd (Option·none-ne-some L e)
-  decision-good (suc u) L e =
-      graded-good u L (gradeWith-source (S .terms .n) (weightOf (S .terms)) (heardLogs (p .heard) u) _ L e)
+  pub used-good : (v : ℕ) (a : Act) (L : Log) → usedAt S p v a ≡ some L → GoodLog L
+  unfolding usedAt
+  used-good zero proposing L e = subst GoodLog (Option·some-injective [] L e) empty-good
+  used-good zero voting L e = subst GoodLog (Option·some-injective [] L e) empty-good
+  used-good zero deciding L e = absurd (Option·none-ne-some L e)
+  used-good zero snapping L e = absurd (Option·none-ne-some L e)
+  used-good (suc u) proposing L e = graded u 0 L e
+  used-good (suc u) voting L e = graded u 1 L e
+  used-good (suc u) deciding L e = graded u 2 L e
+  used-good (suc u) snapping L e = absurd (Option·none-ne-some L e)
 
   -- a vote is the lock, or a proposal heard
   pub vote-good : (v : ℕ) (L : Log) → GoodLog L → GoodLog (voteAmong (S .terms .n) (heardProposals (p .proposals) v) L)
@@ -136,10 +136,10 @@ module _ (S : Seat) (p : History) (g : GoodHistory S p) where
   unfolding decidedBy
   decided-good L e = go (actAt (placeIn (beatNow p))) e
     where
-      go : (a : Act) → decides (seenAt S p (viewOf (beatNow p))) a ≡ some L → GoodLog L
+      go : (a : Act) → decides (seenAt S p (viewOf (beatNow p)) a) a ≡ some L → GoodLog L
       go proposing q = absurd (Option·none-ne-some L q)
       go voting q = absurd (Option·none-ne-some L q)
-      go deciding q = decision-good (viewOf (beatNow p)) L q
+      go deciding q = used-good (viewOf (beatNow p)) deciding L q
       go snapping q = absurd (Option·none-ne-some L q)
 
 -- ---- what it makes
@@ -171,13 +171,13 @@ module _ (S : Seat) (block : Block) (priority : ℕ)
   inViews-good v o h = either (isView v) (λ t. rw t (h (leb-true v lastView t))) (λ t. rw t tt)
 
   module _ (p : History) (g : GoodHistory S p) where
-    makes-good : (v : ℕ) (a : Act) → GoodMade S (makes (S .own) v block priority (seenAt S p v) a)
+    makes-good : (v : ℕ) (a : Act) → GoodMade S (makes (S .own) v block priority (seenAt S p v a) a)
     unfolding makes
     makes-good v proposing =
-        inViews-good v (propose (S .own) v block priority (candidateAt S p v)) (λ lv. propose-good v (candidateAt S p v) lv (candidate-good S p g v))
+        inViews-good v (propose (S .own) v block priority (usedAt S p v proposing)) (λ lv. propose-good v (usedAt S p v proposing) lv (used-good S p g v proposing))
     makes-good v voting =
-        inViews-good v (vote (S .own) v (voteAmong (S .terms .n) (heardProposals (p .proposals) v)) (lockAt S p v))
-        (λ lv. votes-good v (voteAmong (S .terms .n) (heardProposals (p .proposals) v)) (lockAt S p v) lv (λ L e. vote-good S p g v L (lock-good S p g v L e)))
+        inViews-good v (vote (S .own) v (voteAmong (S .terms .n) (heardProposals (p .proposals) v)) (usedAt S p v voting))
+        (λ lv. votes-good v (voteAmong (S .terms .n) (heardProposals (p .proposals) v)) (usedAt S p v voting) lv (λ L e. vote-good S p g v L (used-good S p g v voting L e)))
     makes-good v deciding = tt
     makes-good v snapping = tt
 

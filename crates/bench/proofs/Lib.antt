@@ -8,8 +8,8 @@ pub mod GoodHistory
 pub mod Fine
 pub mod FineAgreements
 pub mod FineProposals
-pub mod FineBench
 pub mod Slots
+pub mod FineBench
 -- The refusals, what holds where none is given, and the outgoing buffer, of every record:
 pub mod ReadRefusals
 pub mod Refusals

@@ -11,12 +11,13 @@ use Rattle.message.specs.Numbers.{AllBelow}
 use Rattle.message.specs.Logs.{Log, sameLog, namesOf, countsOf}
 use Rattle.message.specs.Message.{Content, logMessage, logIn, Writable}
 use Rattle.message.specs.Store.{logAt, holdsLog}
+use Rattle.agreement.specs.Sets.{isYes}
 use Rattle.agreement.specs.Limits.{span}
 use Rattle.agreement.specs.Filing.{Fit, Filing, fileOf}
-use Rattle.agreement.specs.Kept.{wordOn, keep, keptLog, SameRest}
+use Rattle.agreement.specs.Kept.{wordOn, keep, keptLog, snapshotIn, SameRest}
 use Rattle.agreement.specs.Heard.{heardLogs}
-use Rattle.agreement.specs.declared.Agreement.{Agreement}
-use Rattle.agreement.specs.declared.Proposals.{Proposals}
+use Rattle.agreement.specs.Record.{Agreement, SnapshotNumber, one, two}
+use Rattle.agreement.specs.Proposals.{Proposals}
 use Rattle.agreement.proofs.KeptLaws.{file-word, file-kept, file-apart, file-rest}
 use Rattle.agreement.proofs.ElsewhereLaws.{Elsewhere, file-elsewhere}
 use Rattle.agreement.proofs.KeptOfLaws.{heard-same, heard-other}
@@ -25,15 +26,14 @@ use Rattle.bench.specs.Calls.{State}
 use Rattle.bench.specs.Layout.{logsPlace, decidedPlace, Lent}
 use Rattle.bench.specs.Calendar.{lastView, inputBeat, closeBeat}
 use Rattle.bench.specs.History.{History, file, wordFor}
-use Rattle.bench.specs.Record.{agreementOf, proposalsOf, withAgreement}
+use Rattle.bench.specs.Record.{agreementOf, proposalsOf, withAgreement, Bench}
 use Rattle.bench.specs.ByRecord.{decidedLog}
-use Rattle.bench.specs.declared.Bench.{Bench}
 use Rattle.bench.proofs.Fine.{FineAgreement}
 use Rattle.bench.proofs.FineAgreements.{file-fine}
 use Rattle.bench.proofs.FineBench.{with-agreement-fine}
 use Rattle.bench.proofs.Slots.{agreement-view, agreement-fine, proposals-fine, agreement-rest, changed-proposals}
 use Rattle.bench.proofs.GoodHistory.{file-good}
-use Rattle.bench.proofs.Ties.{snapshotIn, Holds, HoldsProposals, Filled, Roomy, lastOf, Tie}
+use Rattle.bench.proofs.Ties.{Holds, HoldsProposals, Filled, Roomy, lastOf, Tie}
 use Rattle.bench.proofs.Filling.{logs-low, SameView, agreement-views, proposals-elsewhere}
 
 -- the bytes hold the log
@@ -111,8 +111,10 @@ module _ (S : Seat) (s : State) (p : History) (t : Tie S s p) (bytes : List ℕ)
           ∙ before .logs j
           ∙ sym (heard-other (p .heard) m (m .view) j (inr x))
     ];
-    one = (let e = rest .hasone in let f = rest .one in λ i. snapshotIn (e i) (f i)) ∙ before .one;
-    two = (let e = rest .hastwo in let f = rest .two in λ i. snapshotIn (e i) (f i)) ∙ before .two;
+    snapshots = λ (k : SnapshotNumber). elim k [
+      | one ↦ ap snapshotIn (rest .one) ∙ before .snapshots one
+      | two ↦ ap snapshotIn (rest .two) ∙ before .snapshots two
+    ];
   }
     where
       rest : SameRest g (r .agreement)
@@ -128,9 +130,9 @@ module _ (S : Seat) (s : State) (p : History) (t : Tie S s p) (bytes : List ℕ)
 
   same-there : (u : ℕ) → (u ≡ m .view → ⊥) → u ≤ lastView → SameView p q u
   unfolding file
-  same-there u d i = record { logs = λ j. heard-other (p .heard) m u j (inl d); one = refl; two = refl }
+  same-there u d i = record { logs = λ j. heard-other (p .heard) m u j (inl d); acts = λ k. refl }
 
-  view-now : r .agreement .view ≡ m .view
+  view-now : r .agreement .marks .view ≡ m .view
   view-now = file-rest g (s .lent .names) (s .lent .counts) (logsPlace (m .view)) bytes (m .sender) .view ∙ agreement-view b (m .view)
 
   abbrev b′ : Bench
@@ -176,8 +178,8 @@ module _ (S : Seat) (s : State) (p : History) (t : Tie S s p) (bytes : List ℕ)
         fine = with-agreement-fine b (t .fine) (m .view) (r .agreement) (file-fine (b .n) g fine-here (s .lent .names) (s .lent .counts) (logsPlace (m .view)) bytes (m .sender) (let a = good .sender in let d = t .n-is in omega arith));
         roomy = roomy-elsewhere elsewhere (t .roomy);
         last-is = ap lastOf nx ∙ t .last-is;
-        gathering-is = (λ i. not (not (ga i) || eqb (nx i) 0)) ∙ t .gathering-is;
+        gathering-is = (λ i. not (not (isYes (ga i)) || eqb (nx i) 0)) ∙ t .gathering-is;
         filled = filled-now;
-        stand-is = (λ i. record { log = logAt (r .names) (r .counts) decidedPlace (x i); parted = y i }) ∙ (λ i. record { log = same i; parted = b .parted }) ∙ t .stand-is;
+        stand-is = (λ i. record { log = logAt (r .names) (r .counts) decidedPlace (x i); parted = isYes (y i) }) ∙ (λ i. record { log = same i; parted = isYes (b .parted) }) ∙ t .stand-is;
         good = file-good S p (logMessage m) good (t .good);
       }

@@ -1,6 +1,5 @@
 -- What an Act makes, and the outgoing bytes: a PROPOSAL, a LOG, and nothing; and the limit of 64 blocks. Computed. Assumes nothing.
 use Prim.Native.Nat.{ℕ, _+_}
-use mathlib.Core.Bool.{true, false}
 use mathlib.Core.List.{List, [], _∷_, _++_, map}
 use mathlib.Core.Option.{Option, some, none}
 use mathlib.Core.Path.{_≡_, refl}
@@ -10,7 +9,7 @@ use Rattle.message.specs.Logs.{Block, Log, isPrefix, inStep, namesOf, countsOf}
 use Rattle.message.specs.Message.{Meaning, logMessage, proposalMessage, messageBytes, bytesOf}
 use Rattle.message.specs.Store.{logAt}
 use Rattle.agreement.specs.Limits.{placeOf}
-use Rattle.agreement.specs.Sets.{weigh}
+use Rattle.agreement.specs.Sets.{weigh, member, adding, removing}
 use Rattle.agreement.specs.Reading.{maySupport, supports, hasGrade, under, prefixes, candidates, longer, longestOf, longest}
 use Rattle.agreement.specs.Record.{emptyAgreement, overlong}
 use Rattle.agreement.specs.Grades.{gradeAmong}
@@ -21,7 +20,7 @@ use Rattle.bench.specs.Layout.{logsPlace, leastLent}
 use Rattle.bench.specs.Calls.{acted, State, Step}
 use Rattle.bench.specs.Acts.{propose, vote, makes}
 use Rattle.bench.specs.Record.{agreementOf, proposalsOf, withAgreement, anyPlace, beyondAgreement, beyondProposals, beyond}
-use Rattle.bench.specs.ByRecord.{keptAgreement, keptProposals, beginOf, fileMessage, candidateOf, lockOf, decisionOf, settled, snappedOne, snappedTwo, changed, actedOf, actOf}
+use Rattle.bench.specs.ByRecord.{keptAgreement, keptProposals, beginOf, fileMessage, usedOf, settled, snappedBy, changed, actedOf, actOf}
 use Rattle.bench.proofs.Odd.{nobody, only, long}
 use Rattle.bench.proofs.Sample.{alone}
 
@@ -35,22 +34,16 @@ ready beat L = record {
         n = 5;
         own = 3;
         next = beat + 1;
-        gathering = true;
+        gathering = 1;
         even =
             record {
-              view = 258;
+              marks = record { view = 258; voters = only 0; equivocators = nobody; one = record { senders = only 0; taken = 1 }; two = record { senders = only 0; taken = 1 } };
               lengths = long 0 (length L);
-              voters = only 0;
-              equivocators = nobody;
-              one = only 0;
-              two = only 0;
-              hasone = true;
-              hastwo = true;
             };
         odd = emptyAgreement 259;
         proposals = emptyProposals 259;
         decided = 0;
-        parted = false;
+        parted = 0;
       };
   lent =
       record {
@@ -108,9 +101,9 @@ rows =
 
 pub bytes-hold : map (λ (r : Row). r .step .answer .out) rows ≡ map (λ (r : Row). r .out) rows
 unfolding
-    beginOf keptAgreement keptProposals actOf actedOf changed snappedOne snappedTwo settled candidateOf lockOf decisionOf agreementOf proposalsOf withAgreement
+    beginOf keptAgreement keptProposals actOf actedOf changed snappedBy settled usedOf agreementOf proposalsOf withAgreement
     anyPlace beyondAgreement beyondProposals beyond propose vote makes voteAmong keptProposal bestOf gradeAmong overlong maySupport supports hasGrade under
-    prefixes candidates longer longestOf longest weigh logAt messageBytes bytesOf part put bytesFor bytesForEach isPrefix inStep namesOf countsOf
+    prefixes candidates longer longestOf longest weigh member adding removing logAt messageBytes bytesOf part put bytesFor bytesForEach isPrefix inStep namesOf countsOf
 bytes-hold = refl
 
 -- ---- 64 blocks at the most
@@ -141,8 +134,8 @@ limits =
 
 pub limits-hold : map (λ (r : Limit). r .step .answer .reply) limits ≡ map (λ (r : Limit). acted (r .made)) limits
 unfolding
-    actOf actedOf changed settled candidateOf lockOf decisionOf agreementOf proposalsOf anyPlace beyondAgreement beyondProposals beyond propose vote makes
-    voteAmong keptProposal bestOf gradeAmong overlong maySupport supports hasGrade under prefixes candidates longer longestOf longest weigh logAt part put
+    actOf actedOf changed settled usedOf agreementOf proposalsOf anyPlace beyondAgreement beyondProposals beyond propose vote makes
+    voteAmong keptProposal bestOf gradeAmong overlong maySupport supports hasGrade under prefixes candidates longer longestOf longest weigh member adding removing logAt part put
     isPrefix inStep namesOf countsOf
 limits-hold = refl
 
@@ -150,14 +143,14 @@ limits-hold = refl
 pub longest-out : offers (ready 1036 (many 63)) .answer .out
     ≡ bytesOf (proposalMessage (record { sender = 3; view = 259; log = many 63 ++ (block 517 259 ∷ []) }) 2057) ++ (7 ∷ [])
 unfolding
-    actOf actedOf changed settled candidateOf agreementOf proposalsOf anyPlace beyondAgreement beyondProposals beyond propose makes gradeAmong overlong
-    maySupport supports hasGrade under prefixes candidates longer longestOf longest weigh logAt messageBytes bytesOf part put bytesFor bytesForEach isPrefix
+    actOf actedOf changed settled usedOf agreementOf proposalsOf anyPlace beyondAgreement beyondProposals beyond propose makes gradeAmong overlong
+    maySupport supports hasGrade under prefixes candidates longer longestOf longest weigh member adding removing logAt messageBytes bytesOf part put bytesFor bytesForEach isPrefix
     inStep namesOf countsOf
 longest-out = refl
 
 pub longest-filed : offers (ready 1036 (many 63)) .held .bench .proposals ≡ withProposal (emptyProposals 259) 3 64 2057
 unfolding
-    actOf actedOf changed settled candidateOf agreementOf proposalsOf anyPlace beyondAgreement beyondProposals beyond propose makes gradeAmong overlong
-    maySupport supports hasGrade under prefixes candidates longer longestOf longest weigh logAt fileMessage fileProposalOf messageBytes bytesOf part put
+    actOf actedOf changed settled usedOf agreementOf proposalsOf anyPlace beyondAgreement beyondProposals beyond propose makes gradeAmong overlong
+    maySupport supports hasGrade under prefixes candidates longer longestOf longest weigh member adding removing logAt fileMessage fileProposalOf messageBytes bytesOf part put
     bytesFor bytesForEach isPrefix inStep namesOf countsOf
 longest-filed = refl

@@ -5,22 +5,19 @@ use mathlib.Core.List.{List, [], _∷_, map}
 use mathlib.Core.Path.{_≡_, refl}
 use lib.ListN.{replicate, set}
 use Rattle.agreement.specs.Limits.{mostSenders}
-use Rattle.agreement.specs.Sets.{weigh}
-use Rattle.agreement.specs.Record.{emptyAgreement}
-use Rattle.agreement.specs.Proposals.{emptyProposals}
-use Rattle.agreement.specs.declared.Agreement.{Agreement}
-use Rattle.agreement.specs.declared.Proposals.{Proposals}
-use Rattle.bench.specs.Record.{anyPlace, beyondAgreement, beyondProposals, beyond}
-use Rattle.bench.specs.declared.Bench.{Bench}
+use Rattle.agreement.specs.Sets.{weigh, member}
+use Rattle.agreement.specs.Record.{emptyAgreement, Agreement}
+use Rattle.agreement.specs.Proposals.{emptyProposals, Proposals}
+use Rattle.bench.specs.Record.{anyPlace, beyondAgreement, beyondProposals, beyond, Bench}
 
 -- ---- records
 
 -- nobody; one sender; a length of k blocks at place i
-abbrev pub nobody : List Bool
-nobody = replicate mostSenders false
+abbrev pub nobody : ℕ
+nobody = 0
 
-abbrev pub only : ℕ → List Bool
-only i = set nobody i true
+abbrev pub only : ℕ → ℕ
+only i = 2 ^ i
 
 abbrev pub long : ℕ → ℕ → List ℕ
 long i k = set (replicate mostSenders 0) i k
@@ -31,35 +28,27 @@ plain n own next decided = record {
   n = n;
   own = own;
   next = next;
-  gathering = false;
+  gathering = 0;
   even = emptyAgreement 0;
   odd = emptyAgreement 0;
   proposals = emptyProposals 0;
   decided = decided;
-  parted = false;
+  parted = 0;
 }
 
 -- by view, lengths, V, E, snapshots one and two
-abbrev pub agreement : ℕ → List ℕ → List Bool → List Bool → List Bool → List Bool → Agreement
+abbrev pub agreement : ℕ → List ℕ → ℕ → ℕ → ℕ → ℕ → Agreement
 agreement v lengths voters equivocators one two = record {
-  view = v;
+  marks = record { view = v; voters = voters; equivocators = equivocators; one = record { senders = one; taken = 0 }; two = record { senders = two; taken = 0 } };
   lengths = lengths;
-  voters = voters;
-  equivocators = equivocators;
-  one = one;
-  two = two;
-  hasone = false;
-  hastwo = false;
 }
 
 -- by view, lengths, the senders with one, and those set aside
-abbrev pub proposals : ℕ → List ℕ → List Bool → List Bool → Proposals
+abbrev pub proposals : ℕ → List ℕ → ℕ → ℕ → Proposals
 proposals v lengths filed aside = record {
-  view = v;
+  marks = record { view = v; filed = filed; aside = aside };
   lengths = lengths;
   priorities = replicate mostSenders (2 ^ 64 - 1);
-  filed = filed;
-  aside = aside;
 }
 
 -- bench 4 of 5, with one part that is not empty
@@ -68,12 +57,12 @@ parts even odd proposals = record {
   n = 5;
   own = 4;
   next = 0;
-  gathering = false;
+  gathering = 0;
   even = even;
   odd = odd;
   proposals = proposals;
   decided = 0;
-  parted = false;
+  parted = 0;
 }
 
 abbrev even : Agreement → Bench
@@ -86,20 +75,35 @@ abbrev offered : Proposals → Bench
 offered g = parts (emptyAgreement 0) (emptyAgreement 0) g
 
 -- no length, only sets: V, E, snapshots one and two
-abbrev sets : List Bool → List Bool → List Bool → List Bool → Agreement
+abbrev sets : ℕ → ℕ → ℕ → ℕ → Agreement
 sets voters equivocators one two = agreement 0 (long 0 0) voters equivocators one two
 
 -- no length, and both snapshots said to be taken: these
-abbrev taken : List Bool → List Bool → Agreement
+abbrev taken : ℕ → ℕ → Agreement
 taken one two = record {
-  view = 0;
+  marks = record { view = 0; voters = nobody; equivocators = nobody; one = record { senders = one; taken = 1 }; two = record { senders = two; taken = 1 } };
   lengths = long 0 0;
-  voters = nobody;
-  equivocators = nobody;
-  one = one;
-  two = two;
-  hasone = true;
-  hastwo = true;
+}
+
+-- nothing filed, and these flags of the snapshots
+abbrev saying : ℕ → ℕ → Agreement
+saying one two = record {
+  marks = record { view = 0; voters = nobody; equivocators = nobody; one = record { senders = nobody; taken = one }; two = record { senders = nobody; taken = two } };
+  lengths = long 0 0;
+}
+
+-- bench 0 of n
+abbrev volume : ℕ → Agreement → Bench
+volume n g = record {
+  n = n;
+  own = 0;
+  next = 0;
+  gathering = 0;
+  even = g;
+  odd = emptyAgreement 0;
+  proposals = emptyProposals 0;
+  decided = 0;
+  parted = 0;
 }
 
 -- ---- the rows
@@ -135,6 +139,7 @@ rows =
     ∷ fine (plain 5 4 0 64)
     ∷ bad (plain 5 4 0 65)
     ∷ bad (plain 5 4 0 255)
+    ∷ bad (plain 5 4 0 65535)
     -- a view
     ∷ fine (even (emptyAgreement 1000000))
     ∷ bad (even (emptyAgreement 1000001))
@@ -156,6 +161,12 @@ rows =
     ∷ fine (even (sets (only 4) nobody nobody nobody))
     ∷ bad (even (sets (only 5) nobody nobody nobody))
     ∷ bad (odd (sets (only 31) nobody nobody nobody))
+    -- all below n, which is one less than 2^n; the same and sender n; ..
+    ∷ fine (even (sets 31 nobody 31 31))
+    ∷ bad (even (sets 63 nobody nobody nobody))
+    ∷ fine (volume 31 (sets (2 ^ 31 - 1) nobody nobody nobody))
+    ∷ bad (volume 31 (sets (2 ^ 32 - 1) nobody nobody nobody))
+    ∷ fine (volume 32 (sets (2 ^ 32 - 1) nobody nobody nobody))
     -- E,
     ∷ fine (odd (sets nobody (only 4) nobody nobody))
     ∷ bad (even (sets nobody (only 5) nobody nobody))
@@ -193,29 +204,35 @@ rows =
       n = 5;
       own = 4;
       next = 0;
-      gathering = true;
+      gathering = 1;
       even = emptyAgreement 0;
       odd = emptyAgreement 0;
       proposals = emptyProposals 0;
       decided = 0;
-      parted = true;
+      parted = 1;
+    })
+    -- flags that are neither 0 nor 1; ..
+    ∷ fine (record {
+      n = 5;
+      own = 4;
+      next = 0;
+      gathering = 2;
+      even = saying 2 4294967295;
+      odd = saying 65536 0;
+      proposals = emptyProposals 0;
+      decided = 0;
+      parted = 65535;
     })
     -- a view to come, and in the other parity's slot; ..
     ∷ fine (parts (agreement 7 (long 0 1) (only 0) nobody nobody nobody) (agreement 8 (long 0 1) (only 0) nobody nobody nobody) (emptyProposals 9))
     -- a proposal set aside that is not filed; a snapshot said to be taken, of nobody; a length of nobody's
     ∷ fine (offered (proposals 9 (long 31 1) nobody (only 0)))
     ∷ fine (even (record {
-      view = 0;
+      marks = record { view = 0; voters = nobody; equivocators = nobody; one = record { senders = nobody; taken = 1 }; two = record { senders = nobody; taken = 1 } };
       lengths = long 4 64;
-      voters = nobody;
-      equivocators = nobody;
-      one = nobody;
-      two = nobody;
-      hasone = true;
-      hastwo = true;
     }))
     ∷ []
 
 pub rows-hold : map (λ (r : Row). beyond (r .bench)) rows ≡ map (λ (r : Row). r .refused) rows
-unfolding beyond beyondAgreement beyondProposals anyPlace weigh
+unfolding beyond beyondAgreement beyondProposals anyPlace weigh member
 rows-hold = refl

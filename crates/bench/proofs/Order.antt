@@ -1,7 +1,6 @@
 -- The first failure is given: calls with many faults at once, then one fault less each time; and calls with two faults alone, which stand next to
 -- each other in the order. One table, computed. Assumes nothing.
 use Prim.Native.Nat.{ℕ}
-use mathlib.Core.Bool.{true, false}
 use mathlib.Core.List.{List, [], _∷_, _++_, map}
 use mathlib.Core.Option.{none}
 use mathlib.Core.Path.{_≡_, refl}
@@ -10,15 +9,14 @@ use Rattle.message.specs.Choice.{anyOf}
 use Rattle.message.specs.Numbers.{numberAt, numbersAt}
 use Rattle.message.specs.Logs.{Block, inStep}
 use Rattle.message.specs.Message.{malformed, readOf, meaningIn}
-use Rattle.agreement.specs.Sets.{weigh}
+use Rattle.agreement.specs.Sets.{weigh, member, adding, removing}
 use Rattle.agreement.specs.Record.{emptyAgreement}
 use Rattle.agreement.specs.Proposals.{emptyProposals}
 use Rattle.bench.specs.Layout.{Lent}
 use Rattle.bench.specs.Calls.{Reply, refused, done, acted, State}
 use Rattle.bench.specs.Acts.{makes}
-use Rattle.bench.specs.Record.{anyPlace, beyondAgreement, beyondProposals, beyond, agreementOf, withAgreement}
-use Rattle.bench.specs.ByRecord.{openOf, beginOf, receiveOf, settled, snappedTwo, changed, actedOf, actOf}
-use Rattle.bench.specs.declared.Bench.{Bench}
+use Rattle.bench.specs.Record.{anyPlace, beyondAgreement, beyondProposals, beyond, agreementOf, withAgreement, Bench}
+use Rattle.bench.specs.ByRecord.{openOf, beginOf, receiveOf, settled, snappedBy, changed, actedOf, actOf}
 use Rattle.bench.proofs.Odd.{plain}
 
 -- ---- the rows
@@ -73,12 +71,12 @@ gathering next = record {
   n = 5;
   own = 4;
   next = next;
-  gathering = true;
+  gathering = 1;
   even = emptyAgreement 0;
   odd = emptyAgreement 0;
   proposals = emptyProposals 0;
   decided = 0;
-  parted = false;
+  parted = 0;
 }
 
 -- gathering at beat 5, and beyond its limits by n alone
@@ -87,12 +85,12 @@ badGathering = record {
   n = 33;
   own = 4;
   next = 6;
-  gathering = true;
+  gathering = 1;
   even = emptyAgreement 0;
   odd = emptyAgreement 0;
   proposals = emptyProposals 0;
   decided = 0;
-  parted = false;
+  parted = 0;
 }
 
 -- bytes: block count, sender, kind, byte 3; the view; the priority, of eight bytes alike
@@ -193,6 +191,6 @@ rows =
 
 pub rows-hold : map worked rows ≡ map stated rows
 unfolding
-    openOf beginOf receiveOf actedOf actOf makes changed settled snappedTwo agreementOf withAgreement readOf malformed meaningIn anyOf numberAt numbersAt inStep
-    beyond beyondAgreement beyondProposals anyPlace weigh
+    openOf beginOf receiveOf actedOf actOf makes changed settled snappedBy agreementOf withAgreement readOf malformed meaningIn anyOf numberAt numbersAt inStep
+    beyond beyondAgreement beyondProposals anyPlace weigh member adding removing
 rows-hold = refl

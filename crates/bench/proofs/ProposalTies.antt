@@ -9,12 +9,12 @@ use Rattle.message.specs.Numbers.{AllBelow}
 use Rattle.message.specs.Logs.{Log, namesOf, countsOf}
 use Rattle.message.specs.Message.{Content, proposalMessage, logIn, Writable}
 use Rattle.message.specs.Store.{logAt}
+use Rattle.agreement.specs.Sets.{isYes}
 use Rattle.agreement.specs.Limits.{span}
 use Rattle.agreement.specs.Filing.{Fit}
-use Rattle.agreement.specs.Proposals.{ProposalFiling, fileProposalOf}
+use Rattle.agreement.specs.Proposals.{ProposalFiling, fileProposalOf, Proposals}
 use Rattle.agreement.specs.Kept.{Proposed, sameProposal, wordOn, keep, keptProposal}
 use Rattle.agreement.specs.Heard.{ProposalHeard, heardProposals}
-use Rattle.agreement.specs.declared.Proposals.{Proposals}
 use Rattle.agreement.proofs.KeptLaws.{proposal-word, proposal-kept, proposal-apart}
 use Rattle.agreement.proofs.ElsewhereLaws.{Elsewhere, proposal-elsewhere}
 use Rattle.agreement.proofs.KeptOfLaws.{proposals-same, proposals-other}
@@ -23,9 +23,8 @@ use Rattle.bench.specs.Calls.{State}
 use Rattle.bench.specs.Layout.{proposalsPlace, decidedPlace, Lent}
 use Rattle.bench.specs.Calendar.{viewBeat, inputBeat}
 use Rattle.bench.specs.History.{History, file, wordFor}
-use Rattle.bench.specs.Record.{agreementOf, proposalsOf, withProposals}
+use Rattle.bench.specs.Record.{agreementOf, proposalsOf, withProposals, Bench}
 use Rattle.bench.specs.ByRecord.{decidedLog}
-use Rattle.bench.specs.declared.Bench.{Bench}
 use Rattle.bench.proofs.Fine.{FineProposals}
 use Rattle.bench.proofs.FineProposals.{file-proposal-fine}
 use Rattle.bench.proofs.FineBench.{with-proposals-fine}
@@ -111,7 +110,7 @@ module _ (S : Seat) (s : State) (p : History) (t : Tie S s p) (bytes : List ℕ)
   filled-then = record {
     views = λ u i o.
         let z = logs-low u in
-        holds-same (record { logs = λ j. refl; one = refl; two = refl })
+        holds-same (record { logs = λ j. refl; acts = λ k. refl })
         (holds-elsewhere lists-elsewhere (agreementOf bench u) p u (t .fine .few) (agreement-fine bench u i (t .fine)) (inl (omega arith)) (t .filled .views u i o));
     proposals = λ u i o.
         proposals-views lists then (t .filled) (m .view) late soon (after .proposals)
@@ -143,6 +142,6 @@ module _ (S : Seat) (s : State) (p : History) (t : Tie S s p) (bytes : List ℕ)
         last-is = t .last-is;
         gathering-is = t .gathering-is;
         filled = filled-then;
-        stand-is = (λ i. record { log = same i; parted = bench .parted }) ∙ t .stand-is;
+        stand-is = (λ i. record { log = same i; parted = isYes (bench .parted) }) ∙ t .stand-is;
         good = file-good S p (proposalMessage m priority) (good, small) (t .good);
       }

@@ -10,7 +10,7 @@ use Rattle.message.specs.Numbers.{part, put, numberAt, numbersAt, bytesFor, byt
 use Rattle.message.specs.Logs.{Block, Log, isPrefix, sameLog, inStep, namesOf, countsOf}
 use Rattle.message.specs.Message.{Meaning, logMessage, proposalMessage, messageBytes, bytesOf, malformed, readOf, meaningIn}
 use Rattle.message.specs.Store.{logAt}
-use Rattle.agreement.specs.Sets.{weigh}
+use Rattle.agreement.specs.Sets.{weigh, member, adding, removing, isYes}
 use Rattle.agreement.specs.Reading as reading
 use Rattle.agreement.specs.Reading.{maySupport, supports, hasGrade, under, prefixes, candidates, longestOf, longest}
 use Rattle.agreement.specs.Record.{overlong}
@@ -23,7 +23,7 @@ use Rattle.bench.specs.Layout.{leastLent, mostBytes}
 use Rattle.bench.specs.Calls.{Reply, done, acted, Step, State}
 use Rattle.bench.specs.Acts.{propose, vote, makes}
 use Rattle.bench.specs.Record.{freshBench, agreementOf, proposalsOf, withAgreement, anyPlace, beyondAgreement, beyondProposals, beyond}
-use Rattle.bench.specs.ByRecord.{keptAgreement, keptProposals, beginOf, fileMessage, receiveOf, candidateOf, lockOf, decisionOf, settled, snappedOne, snappedTwo, changed, actedOf, actOf, decidedLog}
+use Rattle.bench.specs.ByRecord.{keptAgreement, keptProposals, beginOf, fileMessage, receiveOf, usedOf, settled, snappedBy, changed, actedOf, actOf, decidedLog}
 
 -- ---- a roll
 
@@ -66,7 +66,7 @@ rollFrom s out [] = []
 rollFrom s out (o ∷ os) =
     let b : Step = beginOf s (beatIn o) in
     let a : Step = actOf (heardIn o (b .held)) (blockIn o) (priorityIn o) out in
-    record { begun = b .answer .reply; made = a .answer .reply; decided = decidedLog (a .held); parted = a .held .bench .parted }
+    record { begun = b .answer .reply; made = a .answer .reply; decided = decidedLog (a .held); parted = isYes (a .held .bench .parted) }
     ∷ rollFrom (a .held) (a .answer .out) os
 
 -- bench 0 of 1, as Open gives it
@@ -215,8 +215,8 @@ endingLines = replicate 5 (line none []) ++ (line none five ∷ [])
 pub rolls-hold : map roll (sample ∷ twoViews ∷ asleep ∷ late ∷ parting ∷ keeping ∷ countParting ∷ forged ∷ ending ∷ [])
     ≡ sampleLines ∷ twoViewsLines ∷ asleepLines ∷ lateLines ∷ partingLines ∷ keepingLines ∷ countPartingLines ∷ forgedLines ∷ endingLines ∷ []
 unfolding
-    rollFrom beginOf receiveOf readOf malformed meaningIn choice.anyOf actOf actedOf changed snappedOne snappedTwo settled candidateOf lockOf decisionOf fileMessage keptAgreement keptProposals agreementOf
+    rollFrom beginOf receiveOf readOf malformed meaningIn choice.anyOf actOf actedOf changed snappedBy settled usedOf fileMessage keptAgreement keptProposals agreementOf
     proposalsOf withAgreement anyPlace beyondAgreement beyondProposals beyond propose vote makes voteAmong keptProposal fileProposalOf bestOf gradeAmong
-    fileOf overlong maySupport supports hasGrade under prefixes candidates reading.longer longestOf longest weigh logAt messageBytes
+    member adding removing fileOf overlong maySupport supports hasGrade under prefixes candidates reading.longer longestOf longest weigh logAt messageBytes
     bytesOf part put numberAt numbersAt bytesFor bytesForEach isPrefix sameLog inStep namesOf countsOf
 rolls-hold = refl

@@ -1,7 +1,6 @@
 -- Odd records within their limits, which no call refuses by 9: what each call answers on them, and the record afterwards. One table, computed.
 -- Assumes nothing.
 use Prim.Native.Nat.{ℕ, _+_}
-use mathlib.Core.Bool.{Bool, true, false}
 use mathlib.Core.List.{List, [], _∷_, _++_, map}
 use mathlib.Core.Option.{Option, some, none}
 use mathlib.Core.Path.{_≡_, refl}
@@ -11,41 +10,43 @@ use Rattle.message.specs.Numbers.{part, put, numberAt, numbersAt, bytesFor, byt
 use Rattle.message.specs.Logs.{Block, Log, isPrefix, sameLog, inStep, namesOf, countsOf}
 use Rattle.message.specs.Message.{Meaning, logMessage, proposalMessage, messageBytes, bytesOf, malformed, readOf, meaningIn}
 use Rattle.message.specs.Store.{logAt}
-use Rattle.agreement.specs.Sets.{weigh}
+use Rattle.agreement.specs.Sets.{weigh, member, adding, removing}
 use Rattle.agreement.specs.Reading.{maySupport, supports, hasGrade, under, prefixes, candidates, longer, longestOf, longest}
-use Rattle.agreement.specs.Record.{emptyAgreement, overlong, withFirst, withOne}
+use Rattle.agreement.specs.Record.{emptyAgreement, overlong, withFirst, one as first-snapshot, withSnapshot, Agreement}
 use Rattle.agreement.specs.Filing.{first, known, fileOf}
 use Rattle.agreement.specs.Grades.{gradeAmong}
-use Rattle.agreement.specs.Proposals.{emptyProposals, withProposal, fileProposalOf, bestOf}
+use Rattle.agreement.specs.Proposals.{emptyProposals, withProposal, fileProposalOf, bestOf, Proposals}
 use Rattle.agreement.specs.Kept.{keptProposal}
 use Rattle.agreement.specs.Heard.{voteAmong}
-use Rattle.agreement.specs.declared.Agreement.{Agreement}
-use Rattle.agreement.specs.declared.Proposals.{Proposals}
 use Rattle.bench.specs.Layout.{leastLent}
 use Rattle.bench.specs.Calls.{Reply, done, took, acted, State, Step}
 use Rattle.bench.specs.Acts.{propose, vote, makes}
-use Rattle.bench.specs.Record.{agreementOf, proposalsOf, withAgreement, withGatheringOver, withDecided, anyPlace, beyondAgreement, beyondProposals, beyond}
-use Rattle.bench.specs.ByRecord.{keptAgreement, keptProposals, beginOf, fileMessage, receiveOf, candidateOf, lockOf, decisionOf, settled, snappedOne, snappedTwo, changed, actedOf, actOf}
-use Rattle.bench.specs.declared.Bench.{Bench}
+use Rattle.bench.specs.Record.{agreementOf, proposalsOf, withAgreement, withGatheringOver, withDecided, anyPlace, beyondAgreement, beyondProposals, beyond, Bench}
+use Rattle.bench.specs.ByRecord.{keptAgreement, keptProposals, beginOf, fileMessage, receiveOf, usedOf, settled, snappedBy, changed, actedOf, actOf}
 use Rattle.bench.proofs.Odd.{nobody, only, long, agreement, proposals}
 use Rattle.bench.proofs.Order.{held}
 
 -- ---- records and lists
 
--- bench 4 of 5, gathering at a beat; its lists hold the block 1, count 1, everywhere
-abbrev pub bench : ℕ → Agreement → Agreement → Proposals → Bench
-bench beat even odd offered = record {
+-- bench 4 of 5 at a beat, with these flags of its gathering and of decisions in conflict
+abbrev marked : ℕ → Agreement → Agreement → Proposals → ℕ → ℕ → Bench
+marked beat even odd offered gathering parted = record {
   n = 5;
   own = 4;
   next = beat + 1;
-  gathering = true;
+  gathering = gathering;
   even = even;
   odd = odd;
   proposals = offered;
   decided = 0;
-  parted = false;
+  parted = parted;
 }
 
+-- gathering
+abbrev pub bench : ℕ → Agreement → Agreement → Proposals → Bench
+bench beat even odd offered = marked beat even odd offered 1 0
+
+-- its lists hold the block 1, count 1, everywhere
 abbrev state : Bench → State
 state b = held b leastLent leastLent
 
@@ -65,16 +66,10 @@ abbrev quiet : Proposals
 quiet = emptyProposals 0
 
 -- of bench 2 alone: its log of view v has k blocks, and these are the flags of the snapshots, both of which are of it
-abbrev flagged : ℕ → ℕ → Bool → Bool → Agreement
+abbrev flagged : ℕ → ℕ → ℕ → ℕ → Agreement
 flagged v k hasone hastwo = record {
-  view = v;
+  marks = record { view = v; voters = only 2; equivocators = nobody; one = record { senders = only 2; taken = hasone }; two = record { senders = only 2; taken = hastwo } };
   lengths = long 2 k;
-  voters = only 2;
-  equivocators = nobody;
-  one = only 2;
-  two = only 2;
-  hasone = hasone;
-  hastwo = hastwo;
 }
 
 -- the same, no snapshot taken
@@ -125,12 +120,12 @@ rows =
     -- What stands in the slot of the other parity is not read either, and stays;
     ∷ takes (bench 9 blank (heard 2 1) quiet) (log 2 2 one) (took first) (bench 9 (heard 2 1) (heard 2 1) quiet)
     -- and another view's logs give no candidate, lock or decision; the snapshot is of nobody.
-    ∷ acts (bench 8 blank (flagged 1 1 true true) quiet) (some (proposal 4 2 (one ++ (block 6 ∷ []))))
-    (rest 8 blank (flagged 1 1 true true) (withProposal (emptyProposals 2) 4 2 9))
-    ∷ acts (bench 8 blank (flagged 3 1 true true) quiet) none (rest 8 blank (flagged 3 1 true true) quiet)
-    ∷ acts (bench 9 blank (flagged 3 1 true true) quiet) none (rest 9 blank (flagged 3 1 true true) quiet)
-    ∷ acts (bench 10 (heard 4 1) (flagged 3 1 true true) quiet) none
-    (rest 10 (withOne (emptyAgreement 2)) (flagged 3 1 true true) quiet)
+    ∷ acts (bench 8 blank (flagged 1 1 1 1) quiet) (some (proposal 4 2 (one ++ (block 6 ∷ []))))
+    (rest 8 blank (flagged 1 1 1 1) (withProposal (emptyProposals 2) 4 2 9))
+    ∷ acts (bench 8 blank (flagged 3 1 1 1) quiet) none (rest 8 blank (flagged 3 1 1 1) quiet)
+    ∷ acts (bench 9 blank (flagged 3 1 1 1) quiet) none (rest 9 blank (flagged 3 1 1 1) quiet)
+    ∷ acts (bench 10 (heard 4 1) (flagged 3 1 1 1) quiet) none
+    (rest 10 (withSnapshot first-snapshot (emptyAgreement 2)) (flagged 3 1 1 1) quiet)
     -- Proposals of another view: the same.
     ∷ takes (bench 8 blank blank (proposals 3 (long 2 1) (only 2) nobody)) (proposal 2 2 one) (took first)
     (bench 8 blank blank (withProposal (emptyProposals 2) 2 1 9))
@@ -144,13 +139,21 @@ rows =
     ∷ begins (bench 0 (heard 1 1) (heard 2 1) quiet) 11 (bench 11 (emptyAgreement 0) (heard 2 1) quiet)
     ∷ begins (bench 0 (heard 2 1) (heard 1 1) quiet) 11 (bench 11 (heard 2 1) (emptyAgreement 0) quiet)
     -- A snapshot set without its flag gives no lock, nor a decision; with its flag it does.
-    ∷ acts (bench 5 (flagged 0 1 true false) blank quiet) none (rest 5 (flagged 0 1 true false) blank quiet)
-    ∷ acts (bench 5 (flagged 0 1 false true) blank quiet) (some (log 4 1 one))
-    (rest 5 (flagged 0 1 false true) (withFirst (emptyAgreement 1) 4 1) quiet)
-    ∷ acts (bench 6 (flagged 0 1 false true) blank quiet) none
-    (rest 6 (flagged 0 1 false true) (withOne (emptyAgreement 1)) quiet)
-    ∷ acts (bench 6 (flagged 0 1 true false) blank quiet) none
-    (withDecided (rest 6 (flagged 0 1 true false) (withOne (emptyAgreement 1)) quiet) 1)
+    ∷ acts (bench 5 (flagged 0 1 1 0) blank quiet) none (rest 5 (flagged 0 1 1 0) blank quiet)
+    ∷ acts (bench 5 (flagged 0 1 0 1) blank quiet) (some (log 4 1 one))
+    (rest 5 (flagged 0 1 0 1) (withFirst (emptyAgreement 1) 4 1) quiet)
+    ∷ acts (bench 6 (flagged 0 1 0 1) blank quiet) none
+    (rest 6 (flagged 0 1 0 1) (withSnapshot first-snapshot (emptyAgreement 1)) quiet)
+    ∷ acts (bench 6 (flagged 0 1 1 0) blank quiet) none
+    (withDecided (rest 6 (flagged 0 1 1 0) (withSnapshot first-snapshot (emptyAgreement 1)) quiet) 1)
+    -- A flag is yes for every number but zero, and stays as it is: of the snapshots, of the gathering, and of decisions in conflict.
+    ∷ acts (bench 5 (flagged 0 1 0 2) blank quiet) (some (log 4 1 one))
+    (rest 5 (flagged 0 1 0 2) (withFirst (emptyAgreement 1) 4 1) quiet)
+    ∷ acts (bench 6 (flagged 0 1 4294967295 0) blank quiet) none
+    (withDecided (rest 6 (flagged 0 1 4294967295 0) (withSnapshot first-snapshot (emptyAgreement 1)) quiet) 1)
+    ∷ takes (marked 9 (heard 2 1) blank quiet 2 65535) (log 2 2 one) (took known) (marked 9 (heard 2 1) blank quiet 2 65535)
+    ∷ acts (marked 4 (agreement 0 (long 2 64) nobody nobody nobody nobody) blank quiet 65535 2) none
+    (marked 4 (agreement 0 (long 2 64) nobody nobody nobody nobody) blank quiet 0 2)
     -- A length of a sender not filed is ignored, and first writes over it; so with a proposal's length and priority.
     ∷ acts (bench 4 (agreement 0 (long 2 64) nobody nobody nobody nobody) blank quiet) none
     (rest 4 (agreement 0 (long 2 64) nobody nobody nobody nobody) blank quiet)
@@ -166,8 +169,8 @@ rows =
     -- A zero name in the lists is proposed and voted as it stands, and the message filed.
     ∷ actsOn (nameless (bench 4 (heard 0 1) blank quiet)) (some (proposal 4 1 (block 0 ∷ block 6 ∷ [])))
     (rest 4 (heard 0 1) blank (withProposal (emptyProposals 1) 4 2 9))
-    ∷ actsOn (nameless (bench 5 (flagged 0 1 true true) blank quiet)) (some (log 4 1 (block 0 ∷ [])))
-    (rest 5 (flagged 0 1 true true) (withFirst (emptyAgreement 1) 4 1) quiet)
+    ∷ actsOn (nameless (bench 5 (flagged 0 1 1 1) blank quiet)) (some (log 4 1 (block 0 ∷ [])))
+    (rest 5 (flagged 0 1 1 1) (withFirst (emptyAgreement 1) 4 1) quiet)
     -- A proposal set aside, filed or not, is not voted for, and one more of its sender is known; filed alone it is.
     ∷ acts (bench 1 blank blank (proposals 0 (long 2 1) nobody (only 2))) (some (log 4 0 []))
     (rest 1 (withFirst (emptyAgreement 0) 4 0) blank (proposals 0 (long 2 1) nobody (only 2)))
@@ -187,8 +190,8 @@ stated r = (r .reply, r .bench)
 
 pub rows-hold : map found rows ≡ map stated rows
 unfolding
-    beginOf receiveOf readOf malformed meaningIn choice.anyOf actOf actedOf changed snappedOne snappedTwo settled candidateOf lockOf decisionOf fileMessage
+    beginOf receiveOf readOf malformed meaningIn choice.anyOf actOf actedOf changed snappedBy settled usedOf fileMessage
     keptAgreement keptProposals agreementOf proposalsOf withAgreement anyPlace beyondAgreement beyondProposals beyond propose vote makes voteAmong keptProposal
-    fileProposalOf bestOf gradeAmong fileOf overlong maySupport supports hasGrade under prefixes candidates longer longestOf longest weigh logAt messageBytes
+    fileProposalOf bestOf gradeAmong fileOf overlong maySupport supports hasGrade under prefixes candidates longer longestOf longest weigh member adding removing logAt messageBytes
     bytesOf part put numberAt numbersAt bytesFor bytesForEach isPrefix sameLog inStep namesOf countsOf
 rows-hold = refl

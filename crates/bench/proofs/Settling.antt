@@ -1,6 +1,5 @@
 -- An act ends the gathering and settles its decision: what stands in the record and the lists is what the decisions come to; what is filed stays.
 -- Assumes nothing.
-use Prim.Native.Nat.{ℕ}
 use native.Mathlib.Omega.{arith}
 use mathlib.Core.Bool.{true, false}
 use mathlib.Core.Option.{Option, some, none}
@@ -13,14 +12,14 @@ use Rattle.message.specs.Store.{logAt}
 use Rattle.message.proofs.TestLaws.{either}
 use Rattle.message.proofs.ListedLaws.{log-stored}
 use Rattle.agreement.proofs.ElsewhereLaws.{Elsewhere, put-elsewhere}
+use Rattle.agreement.specs.Sets.{isYes}
 use Rattle.bench.specs.Terms.{Seat}
 use Rattle.bench.specs.Calls.{State}
 use Rattle.bench.specs.Layout.{decidedPlace, Lent}
 use Rattle.bench.specs.Acts.{Stand, settle}
 use Rattle.bench.specs.History.{History, standIn}
-use Rattle.bench.specs.Record.{agreementOf, proposalsOf, withGatheringOver, withDecided, withParted}
+use Rattle.bench.specs.Record.{agreementOf, proposalsOf, withGatheringOver, withDecided, withParted, Bench}
 use Rattle.bench.specs.ByRecord.{decidedLog, over, settled, standing}
-use Rattle.bench.specs.declared.Bench.{Bench}
 use Rattle.bench.proofs.Fine.{Fine}
 use Rattle.bench.proofs.FineBench.{over-fine, decided-fine, parted-fine}
 use Rattle.bench.proofs.GoodHistory.{GoodLog}
@@ -33,7 +32,7 @@ pub record Settled (S : Seat) (s : State) (p : History) (d : Option Log) (x : St
   pub n-is : x .bench .n ≡ S .terms .n
   pub own-is : x .bench .own ≡ S .own
   pub next-is : x .bench .next ≡ s .bench .next
-  pub at-rest : x .bench .gathering ≡ false
+  pub at-rest : x .bench .gathering ≡ 0
   pub fine : Fine (x .bench)
   pub roomy : Roomy (x .lent)
   pub filled : Filled (x .bench) (x .lent) p
@@ -89,7 +88,7 @@ module _ (S : Seat) (s : State) (p : History) (t : Tie S s p) where
     stands : decidedLog s ≡ standIn (S .stood) (p .actions) .log
     stands = ap (λ (x : Stand). x .log) (t .stand-is)
 
-    marked : s .bench .parted ≡ standIn (S .stood) (p .actions) .parted
+    marked : isYes (s .bench .parted) ≡ standIn (S .stood) (p .actions) .parted
     marked = ap (λ (x : Stand). x .parted) (t .stand-is)
 
     -- it extends what stands, is a prefix of it, or conflicts with it

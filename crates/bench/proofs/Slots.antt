@@ -2,7 +2,7 @@
 use Prim.Native.Nat.{ℕ, _+_, _%_, _≤_, _<_}
 use native.Mathlib.Decide.{decLe}
 use native.Mathlib.Omega.{arith}
-use mathlib.Core.Bool.{false, _||_, _&&_}
+use mathlib.Core.Bool.{Bool, true, false, _||_, _&&_}
 use mathlib.Core.List.{List}
 use mathlib.Core.Logic.{_⊎_, inl, inr}
 use mathlib.Core.Path.{_≡_, refl, sym, ap, _∙_}
@@ -14,85 +14,105 @@ use Rattle.message.specs.Choice.{pick}
 use Rattle.message.specs.Logs.{sameLog}
 use Rattle.message.specs.Message.{logIn}
 use Rattle.message.proofs.TestLaws.{either}
-use Rattle.agreement.specs.Limits.{mostSenders}
 use Rattle.agreement.specs.Sets.{member}
-use Rattle.agreement.specs.Record.{emptyAgreement, filedLog}
+use Rattle.agreement.specs.Record.{emptyAgreement, filedLog, Agreement}
 use Rattle.agreement.specs.Filing.{unfit}
-use Rattle.agreement.specs.Proposals.{emptyProposals, fileProposalOf}
+use Rattle.agreement.specs.Proposals.{emptyProposals, fileProposalOf, Proposals}
 use Rattle.agreement.specs.Kept.{nothing, keptLog, keptProposal}
-use Rattle.agreement.specs.declared.Agreement.{Agreement}
-use Rattle.agreement.specs.declared.Proposals.{Proposals}
 use Rattle.bench.specs.Layout.{isEven}
 use Rattle.bench.specs.Calendar.{inputBeat, closeBeat, logsShut, proposalsShut}
-use Rattle.bench.specs.Record.{ofView, slotOf, agreementOf, proposalsOf, withAgreement, withProposals}
+use Rattle.bench.specs.Record.{ofView, slotOf, agreementOf, proposedIn, proposalsOf, withAgreement, withProposals, Bench}
 use Rattle.bench.specs.ByRecord.{keptAgreement, keptProposals, begunBench}
-use Rattle.bench.specs.declared.Bench.{Bench}
 use Rattle.agreement.proofs.KeptLaws.{cases}
+use Rattle.agreement.proofs.MaskLaws.{member-zero}
 use Rattle.bench.proofs.Fine.{FineAgreement, FineProposals, Fine}
-use Rattle.bench.proofs.FineAgreements.{getD-all, empty-fine}
+use Rattle.bench.proofs.FineAgreements.{empty-fine}
 use Rattle.bench.proofs.FineProposals.{empty-proposals-fine}
 
 -- ---- nothing filed
 
 pub empty-kept : (names counts : List ℕ) (base v i : ℕ) → keptLog names counts base (emptyAgreement v) i ≡ nothing
 unfolding keptLog
-empty-kept names counts base v i = rw (getD-all mostSenders i false)
+empty-kept names counts base v i = rw (member-zero i)
 
 pub empty-proposal-kept : (names counts : List ℕ) (base v i : ℕ) → keptProposal names counts base (emptyProposals v) i ≡ nothing
 unfolding keptProposal
-empty-proposal-kept names counts base v i = rw (getD-all mostSenders i false)
+empty-proposal-kept names counts base v i = rw (member-zero i)
 
 -- ---- what a slot holds of view v
 
-pub own-view : (g : Agreement) (v : ℕ) → g .view ≡ v → ofView g v ≡ g
-own-view g v e = rw (eq-eqb (g .view) v e)
+pub own-view : (g : Agreement) (v : ℕ) → g .marks .view ≡ v → ofView g v ≡ g
+own-view g v e = rw (eq-eqb (g .marks .view) v e)
 
-pub other-view : (g : Agreement) (v : ℕ) → (g .view ≡ v → ⊥) → ofView g v ≡ emptyAgreement v
-other-view g v e = rw (ne-eqb (g .view) v e)
+pub other-view : (g : Agreement) (v : ℕ) → (g .marks .view ≡ v → ⊥) → ofView g v ≡ emptyAgreement v
+other-view g v e = rw (ne-eqb (g .marks .view) v e)
 
 -- with nothing filed it does not matter which view the slot says
 pub empty-of-view : (u v : ℕ) → ofView (emptyAgreement u) v ≡ emptyAgreement v
 empty-of-view u v =
     either (eqb u v) (λ t. rw t (ap emptyAgreement (eqb-true u v t))) (λ t. rw t)
 
-of-view-view : (g : Agreement) (v : ℕ) → ofView g v .view ≡ v
-of-view-view g v = either (eqb (g .view) v) (λ t. rw t (eqb-true (g .view) v t)) (λ t. rw t)
+of-view-view : (g : Agreement) (v : ℕ) → ofView g v .marks .view ≡ v
+of-view-view g v = either (eqb (g .marks .view) v) (λ t. rw t (eqb-true (g .marks .view) v t)) (λ t. rw t)
 
 of-view-fine : (n : ℕ) (g : Agreement) (v : ℕ) → v ≤ lastView → FineAgreement n g → FineAgreement n (ofView g v)
-of-view-fine n g v h f = either (eqb (g .view) v) (λ t. rw t f) (λ t. rw t (empty-fine n v h))
+of-view-fine n g v h f = either (eqb (g .marks .view) v) (λ t. rw t f) (λ t. rw t (empty-fine n v h))
 
 -- the same of proposals
-abbrev proposalsIn : Proposals → ℕ → Proposals
-proposalsIn g v = pick (eqb (g .view) v) g (emptyProposals v)
+own-proposals : (g : Proposals) (v : ℕ) → g .marks .view ≡ v → proposedIn g v ≡ g
+own-proposals g v e = rw (eq-eqb (g .marks .view) v e)
 
-own-proposals : (g : Proposals) (v : ℕ) → g .view ≡ v → proposalsIn g v ≡ g
-own-proposals g v e = rw (eq-eqb (g .view) v e)
+other-proposals : (g : Proposals) (v : ℕ) → (g .marks .view ≡ v → ⊥) → proposedIn g v ≡ emptyProposals v
+other-proposals g v e = rw (ne-eqb (g .marks .view) v e)
 
-other-proposals : (g : Proposals) (v : ℕ) → (g .view ≡ v → ⊥) → proposalsIn g v ≡ emptyProposals v
-other-proposals g v e = rw (ne-eqb (g .view) v e)
-
-empty-proposals-in : (u v : ℕ) → proposalsIn (emptyProposals u) v ≡ emptyProposals v
+empty-proposals-in : (u v : ℕ) → proposedIn (emptyProposals u) v ≡ emptyProposals v
 empty-proposals-in u v = either (eqb u v) (λ t. rw t (ap emptyProposals (eqb-true u v t))) (λ t. rw t)
+
+-- ---- the slot of view v: these laws alone go by parity
+
+-- what two agreements meet, the one picked meets; so what both slots meet, the slot of view v meets
+pub picked : (P : Agreement → Type 0) (t : Bool) (g h : Agreement) → P g → P h → P (pick t g h)
+picked P true g h x y = x
+picked P false g h x y = y
+
+pub in-slot : (P : Agreement → Type 0) (b : Bench) (v : ℕ) → P (b .even) → P (b .odd) → P (slotOf b v)
+in-slot P b v = picked P (isEven v) (b .even) (b .odd)
+
+-- what is stored is read back
+slot-own : (b : Bench) (v : ℕ) (g : Agreement) → slotOf (withAgreement b v g) v ≡ g
+unfolding withAgreement
+slot-own b v g = go (isEven v)
+  where
+    go : (t : Bool) → pick t (pick t g (b .even)) (pick t (b .odd) g) ≡ g
+    go true = refl
+    go false = refl
+
+-- the other slot is untouched
+slot-other : (b : Bench) (v : ℕ) (g : Agreement) (u : ℕ) → (isEven u ≡ isEven v → ⊥) → slotOf (withAgreement b v g) u ≡ slotOf b u
+unfolding withAgreement
+slot-other b v g u h =
+    either (isEven v)
+    (λ t. either (isEven u) (λ q. absurd (h (q ∙ sym t))) (λ q. rw (t, q)))
+    (λ t. either (isEven u) (λ q. rw (t, q)) (λ q. absurd (h (q ∙ sym t))))
 
 -- ---- what a record has of view v
 
 module _ (b : Bench) (v : ℕ) where
-  pub agreement-view : agreementOf b v .view ≡ v
+  pub agreement-view : agreementOf b v .marks .view ≡ v
   unfolding agreementOf
   agreement-view = of-view-view (slotOf b v) v
 
-  pub proposals-view : proposalsOf b v .view ≡ v
+  pub proposals-view : proposalsOf b v .marks .view ≡ v
   unfolding proposalsOf
-  proposals-view = either (eqb (b .proposals .view) v) (λ t. rw t (eqb-true (b .proposals .view) v t)) (λ t. rw t)
+  proposals-view = either (eqb (b .proposals .marks .view) v) (λ t. rw t (eqb-true (b .proposals .marks .view) v t)) (λ t. rw t)
 
   pub agreement-fine : v ≤ lastView → Fine b → FineAgreement (b .n) (agreementOf b v)
   unfolding agreementOf
-  agreement-fine h f =
-      either (isEven v) (λ t. rw t (of-view-fine (b .n) (b .even) v h (f .even))) (λ t. rw t (of-view-fine (b .n) (b .odd) v h (f .odd)))
+  agreement-fine h f = of-view-fine (b .n) (slotOf b v) v h (in-slot (FineAgreement (b .n)) b v (f .even) (f .odd))
 
   pub proposals-fine : v ≤ lastView → Fine b → FineProposals (b .n) (proposalsOf b v)
   unfolding proposalsOf
-  proposals-fine h f = either (eqb (b .proposals .view) v) (λ t. rw t (f .proposals)) (λ t. rw t (empty-proposals-fine (b .n) v h))
+  proposals-fine h f = either (eqb (b .proposals .marks .view) v) (λ t. rw t (f .proposals)) (λ t. rw t (empty-proposals-fine (b .n) v h))
 
 pub same-proposals : (b c : Bench) (v : ℕ) → c .proposals ≡ b .proposals → proposalsOf c v ≡ proposalsOf b v
 unfolding proposalsOf
@@ -114,32 +134,26 @@ module _ (b : Bench) (v : ℕ) (g : Agreement) where
   -- nothing else of the record changes
   pub agreement-rest : SameBesides b (withAgreement b v g)
   unfolding withAgreement
-  agreement-rest =
-      either (isEven v)
-      (λ t. rw t (record { n = refl; own = refl; next = refl; gathering = refl; proposals = refl; decided = refl; parted = refl }))
-      (λ t. rw t (record { n = refl; own = refl; next = refl; gathering = refl; proposals = refl; decided = refl; parted = refl }))
+  agreement-rest = record { n = refl; own = refl; next = refl; gathering = refl; proposals = refl; decided = refl; parted = refl }
 
-  module _ (e : g .view ≡ v) where
+  module _ (e : g .marks .view ≡ v) where
     -- it is the one stored
     pub changed-own : agreementOf (withAgreement b v g) v ≡ g
-    unfolding agreementOf withAgreement
-    changed-own = either (isEven v) (λ t. rw t (own-view g v e)) (λ t. rw t (own-view g v e))
+    unfolding agreementOf
+    changed-own = ap (λ (a : Agreement). ofView a v) (slot-own b v g) ∙ own-view g v e
 
     -- of another view of the same parity nothing is left
     pub changed-beside : (u : ℕ) → (u ≡ v → ⊥) → isEven u ≡ isEven v → agreementOf (withAgreement b v g) u ≡ emptyAgreement u
-    unfolding agreementOf withAgreement
+    unfolding agreementOf
     changed-beside u h q =
-        either (isEven v)
-        (λ t. rw (q, t) (other-view g u (λ z. h (sym z ∙ e))))
-        (λ t. rw (q, t) (other-view g u (λ z. h (sym z ∙ e))))
+        ap (λ (t : Bool). ofView (pick t (withAgreement b v g .even) (withAgreement b v g .odd)) u) q
+        ∙ ap (λ (a : Agreement). ofView a u) (slot-own b v g)
+        ∙ other-view g u (λ z. h (sym z ∙ e))
 
   -- a view of the other parity is untouched
   pub changed-across : (u : ℕ) → (isEven u ≡ isEven v → ⊥) → agreementOf (withAgreement b v g) u ≡ agreementOf b u
-  unfolding agreementOf withAgreement
-  changed-across u h =
-      either (isEven v)
-      (λ t. either (isEven u) (λ q. absurd (h (q ∙ sym t))) (λ q. rw (t, q)))
-      (λ t. either (isEven u) (λ q. rw (t, q)) (λ q. absurd (h (q ∙ sym t))))
+  unfolding agreementOf
+  changed-across u h = ap (λ (a : Agreement). ofView a u) (slot-other b v g u h)
 
   pub changed-proposals : (u : ℕ) → proposalsOf (withAgreement b v g) u ≡ proposalsOf b u
   changed-proposals u = same-proposals b (withAgreement b v g) u (agreement-rest .proposals)
@@ -164,11 +178,11 @@ parity-apart u v q h =
 -- ---- after a change of the proposals
 
 module _ (b : Bench) (v : ℕ) (g : Proposals) where
-  pub proposals-own : g .view ≡ v → proposalsOf (withProposals b g) v ≡ g
+  pub proposals-own : g .marks .view ≡ v → proposalsOf (withProposals b g) v ≡ g
   unfolding proposalsOf
   proposals-own e = own-proposals g v e
 
-  pub proposals-beside : (u : ℕ) → g .view ≡ v → (u ≡ v → ⊥) → proposalsOf (withProposals b g) u ≡ emptyProposals u
+  pub proposals-beside : (u : ℕ) → g .marks .view ≡ v → (u ≡ v → ⊥) → proposalsOf (withProposals b g) u ≡ emptyProposals u
   unfolding proposalsOf
   proposals-beside u e h = other-proposals g u (λ z. h (sym z ∙ e))
 
@@ -176,11 +190,11 @@ module _ (b : Bench) (v : ℕ) (g : Proposals) where
 
 -- a PROPOSAL leaves the view (for a LOG: KeptLaws, file-rest)
 pub file-proposal-view : (g : Proposals) (names counts : List ℕ) (base : ℕ) (s : List ℕ) (i priority : ℕ)
-    → fileProposalOf g names counts base s i priority .proposals .view ≡ g .view
+    → fileProposalOf g names counts base s i priority .proposals .marks .view ≡ g .marks .view
 unfolding fileProposalOf
 file-proposal-view g names counts base s i priority =
-    cases (fileProposalOf g names counts base s i priority .proposals .view ≡ g .view)
-    (unfit names counts base s i || member (g .aside) i) (member (g .filed) i)
+    cases (fileProposalOf g names counts base s i priority .proposals .marks .view ≡ g .marks .view)
+    (unfit names counts base s i || member (g .marks .aside) i) (member (g .marks .filed) i)
     (sameLog (logIn s) (filedLog names counts base (g .lengths) i) && eqb priority (getD (g .priorities) i 0))
     (λ q. rw q) (λ q v e. rw (q, v, e)) (λ q v e. rw (q, v, e)) (λ q v. rw (q, v))
 
@@ -190,9 +204,9 @@ file-proposal-view g names counts base s i priority =
 kept-open : (beat : ℕ) (g : Agreement) (v : ℕ) → beat ≤ closeBeat v → ofView (keptAgreement beat g) v ≡ ofView g v
 unfolding keptAgreement
 kept-open beat g v h =
-    either (logsShut (g .view) beat)
+    either (logsShut (g .marks .view) beat)
     (λ t.
-    let l = ltb-true (closeBeat (g .view)) beat t in
+    let l = ltb-true (closeBeat (g .marks .view)) beat t in
     rw t (empty-of-view 0 v ∙ sym (other-view g v (λ e. omega arith))))
     (λ t. rw t)
 
@@ -200,34 +214,37 @@ kept-open beat g v h =
 kept-shut : (beat : ℕ) (g : Agreement) (v : ℕ) → closeBeat v < beat → ofView (keptAgreement beat g) v ≡ emptyAgreement v
 unfolding keptAgreement
 kept-shut beat g v h =
-    either (logsShut (g .view) beat)
+    either (logsShut (g .marks .view) beat)
     (λ t. rw t (empty-of-view 0 v))
-    (λ t. let l = ltb-false (closeBeat (g .view)) beat t in rw t (other-view g v (λ e. omega arith)))
+    (λ t. let l = ltb-false (closeBeat (g .marks .view)) beat t in rw t (other-view g v (λ e. omega arith)))
 
 module _ (b : Bench) (beat v : ℕ) where
+  slot-begun : slotOf (begunBench b beat) v ≡ keptAgreement beat (slotOf b v)
+  slot-begun = either (isEven v) (λ t. rw t) (λ t. rw t)
+
   pub begun-open : beat ≤ closeBeat v → agreementOf (begunBench b beat) v ≡ agreementOf b v
   unfolding agreementOf
-  begun-open h = either (isEven v) (λ t. rw t (kept-open beat (b .even) v h)) (λ t. rw t (kept-open beat (b .odd) v h))
+  begun-open h = ap (λ (a : Agreement). ofView a v) slot-begun ∙ kept-open beat (slotOf b v) v h
 
   pub begun-shut : closeBeat v < beat → agreementOf (begunBench b beat) v ≡ emptyAgreement v
   unfolding agreementOf
-  begun-shut h = either (isEven v) (λ t. rw t (kept-shut beat (b .even) v h)) (λ t. rw t (kept-shut beat (b .odd) v h))
+  begun-shut h = ap (λ (a : Agreement). ofView a v) slot-begun ∙ kept-shut beat (slotOf b v) v h
 
-kept-proposals-open : (beat : ℕ) (g : Proposals) (v : ℕ) → beat ≤ inputBeat v → proposalsIn (keptProposals beat g) v ≡ proposalsIn g v
+kept-proposals-open : (beat : ℕ) (g : Proposals) (v : ℕ) → beat ≤ inputBeat v → proposedIn (keptProposals beat g) v ≡ proposedIn g v
 unfolding keptProposals
 kept-proposals-open beat g v h =
-    either (proposalsShut (g .view) beat)
+    either (proposalsShut (g .marks .view) beat)
     (λ t.
-    let l = ltb-true (inputBeat (g .view)) beat t in
+    let l = ltb-true (inputBeat (g .marks .view)) beat t in
     rw t (empty-proposals-in 0 v ∙ sym (other-proposals g v (λ e. omega arith))))
     (λ t. rw t)
 
-kept-proposals-shut : (beat : ℕ) (g : Proposals) (v : ℕ) → inputBeat v < beat → proposalsIn (keptProposals beat g) v ≡ emptyProposals v
+kept-proposals-shut : (beat : ℕ) (g : Proposals) (v : ℕ) → inputBeat v < beat → proposedIn (keptProposals beat g) v ≡ emptyProposals v
 unfolding keptProposals
 kept-proposals-shut beat g v h =
-    either (proposalsShut (g .view) beat)
+    either (proposalsShut (g .marks .view) beat)
     (λ t. rw t (empty-proposals-in 0 v))
-    (λ t. let l = ltb-false (inputBeat (g .view)) beat t in rw t (other-proposals g v (λ e. omega arith)))
+    (λ t. let l = ltb-false (inputBeat (g .marks .view)) beat t in rw t (other-proposals g v (λ e. omega arith)))
 
 module _ (b : Bench) (beat v : ℕ) where
   pub begun-proposals-open : beat ≤ inputBeat v → proposalsOf (begunBench b beat) v ≡ proposalsOf b v

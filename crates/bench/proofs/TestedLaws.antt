@@ -14,10 +14,9 @@ use Rattle.message.proofs.ListedLaws.{Within, of-within}
 use Rattle.bench.specs.Layout.{decidedPlace, leastLent, mostBytes, Lent, shortLists, outOfRange}
 use Rattle.bench.specs.Calendar.{lastBeat}
 use Rattle.bench.specs.Calls.{State}
-use Rattle.bench.specs.Record.{withGatheringOver, beyondAgreement, beyondProposals, beyond}
-use Rattle.bench.specs.Answers.{lentAs, stateOf}
+use Rattle.bench.specs.Record.{withGatheringOver, beyondAgreement, beyondProposals, beyond, Bench}
+use Rattle.bench.specs.Answers.{lentAs, heldWith}
 use Rattle.bench.specs.Tested.{Usable, Tested, Before}
-use Rattle.bench.specs.declared.Bench.{Bench}
 
 -- ---- the record
 
@@ -55,21 +54,21 @@ module _ (l : Lent) (e : shortLists l ≡ false) where
 -- ---- all that was tested, as the code finds it
 
 pub is-usable : (b : Bench) (names counts : List ℕ) (r q : Bool) → r ≡ beyond b → r ≡ false → q ≡ shortLists (lentAs names counts) → q ≡ false
-    → Usable (stateOf b names counts)
+    → Usable (heldWith b names counts)
 is-usable b names counts r q e t f u = record { limits = sym e ∙ t; lists = sym f ∙ u }
 
 pub act-asks : (b : Bench) (names counts out : List ℕ) (r q : Bool) → r ≡ beyond b → r ≡ false → q ≡ shortLists (lentAs names counts) → q ≡ false
-    → mostBytes ≤ length out → Tested (stateOf b names counts) out
+    → mostBytes ≤ length out → Tested (heldWith b names counts) out
 act-asks b names counts out r q e t f u l = record { usable = is-usable b names counts r q e t f u; room = le-ltb (length out) mostBytes l }
 
 pub long-out : {s : State} {out : List ℕ} → Tested s out → mostBytes ≤ length out
 long-out {s} {out} t = ltb-false (length out) mostBytes (t .room)
 
 -- ending the gathering does not matter to it
-module _ (b : Bench) (names counts out : List ℕ) (t : Tested (stateOf b names counts) out) where
-  pub usable-over : Usable (stateOf (withGatheringOver b) names counts)
+module _ (b : Bench) (names counts out : List ℕ) (t : Tested (heldWith b names counts) out) where
+  pub usable-over : Usable (heldWith (withGatheringOver b) names counts)
   unfolding beyond
   usable-over = record { limits = t .usable .limits; lists = t .usable .lists }
 
-  pub tested-over : Tested (stateOf (withGatheringOver b) names counts) out
+  pub tested-over : Tested (heldWith (withGatheringOver b) names counts) out
   tested-over = record { usable = usable-over; room = t .room }

@@ -1,40 +1,32 @@
 -- The tie between a bench's record with its lists and its history: of every view still open they hold the same. Assumes nothing.
 use Prim.Native.Nat.{ℕ, zero, suc, _+_, _^_, _≤_, _<_}
 use native.Mathlib.Omega.{arith}
-use mathlib.Core.Bool.{Bool, not}
+use mathlib.Core.Bool.{not}
 use mathlib.Core.List.{List, [], _∷_, List·Memᴰ, List·Memᴰ·head, List·Memᴰ·tail}
 use mathlib.Core.Option.{Option, some, none}
 use mathlib.Core.Path.{_≡_, refl}
 use borrow.Author.Tests.{ne-eqb}
 use lib.ListN.{length}
-use Rattle.message.specs.Choice.{pick}
 use Rattle.message.specs.Numbers.{AllBelow}
 use Rattle.message.specs.Message.{Content}
-use Rattle.agreement.specs.Sets.{member}
-use Rattle.agreement.specs.Kept.{keptLog, keptProposal}
+use Rattle.agreement.specs.Kept.{keptLog, keptProposal, snapshotIn}
 use Rattle.agreement.specs.Heard.{heardLogs, ProposalHeard, heardProposals}
-use Rattle.agreement.specs.declared.Agreement.{Agreement}
-use Rattle.agreement.specs.declared.Proposals.{Proposals}
+use Rattle.agreement.specs.Record.{Agreement, SnapshotNumber, snapshotAt}
+use Rattle.agreement.specs.Proposals.{Proposals}
 use Rattle.bench.specs.Terms.{Seat}
 use Rattle.bench.specs.Calls.{State}
 use Rattle.bench.specs.Layout.{logsPlace, proposalsPlace, leastLent, Lent}
-use Rattle.bench.specs.Calendar.{lastView, viewBeat, inputBeat, snapshotOneBeat, snapshotTwoBeat, closeBeat}
-use Rattle.bench.specs.History.{ActRecord, History, heardAt, snapshotOf, standIn}
-use Rattle.bench.specs.Record.{agreementOf, proposalsOf, idle}
+use Rattle.bench.specs.Calendar.{lastView, viewBeat, inputBeat, closeBeat}
+use Rattle.bench.specs.History.{ActRecord, History, heardAt, snapshotTook, standIn}
+use Rattle.bench.specs.Record.{agreementOf, proposalsOf, idle, Bench}
 use Rattle.bench.specs.ByRecord.{standing}
-use Rattle.bench.specs.declared.Bench.{Bench}
 use Rattle.bench.proofs.Fine.{Fine}
 use Rattle.bench.proofs.GoodHistory.{GoodHistory}
-
--- a snapshot as a record keeps it
-abbrev pub snapshotIn : Bool → List Bool → Option (ℕ → Bool)
-snapshotIn has set = pick has (some (member set)) none
 
 -- The agreement g on the lists holds what the history has of view v.
 pub record Holds (l : Lent) (g : Agreement) (p : History) (v : ℕ) : Type 0 where
   pub logs : (i : ℕ) → keptLog (l .names) (l .counts) (logsPlace v) g i ≡ heardLogs (p .heard) v i
-  pub one : snapshotIn (g .hasone) (g .one) ≡ snapshotOf v (heardAt (p .actions) (snapshotOneBeat v))
-  pub two : snapshotIn (g .hastwo) (g .two) ≡ snapshotOf v (heardAt (p .actions) (snapshotTwoBeat v))
+  pub snapshots : (k : SnapshotNumber) → snapshotIn (snapshotAt k (g .marks)) ≡ snapshotTook p k v
 
 -- The proposals g on the lists hold what the history has of view v.
 abbrev pub HoldsProposals : Lent → Proposals → History → ℕ → Type 0

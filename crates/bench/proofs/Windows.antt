@@ -6,7 +6,7 @@ use Rattle.message.specs.Choice.{anyOf}
 use Rattle.message.specs.Numbers.{numberAt, numbersAt, bytesFor, bytesForEach}
 use Rattle.message.specs.Logs.{Log, inStep, namesOf, countsOf}
 use Rattle.message.specs.Message.{Meaning, logMessage, proposalMessage, messageBytes, bytesOf, malformed, readOf, meaningIn}
-use Rattle.agreement.specs.Sets.{weigh}
+use Rattle.agreement.specs.Sets.{weigh, member, adding, removing}
 use Rattle.agreement.specs.Filing.{first, fileOf}
 use Rattle.agreement.specs.Proposals.{fileProposalOf}
 use Rattle.bench.specs.Layout.{proposalsPlace, decidedPlace, leastLent, mostBytes}
@@ -90,5 +90,5 @@ pub rows-hold : map (λ (r : Row). receiveOf (held (gathering (r .beat + 1)) lea
     ≡ map (λ (r : Row). r .reply) rows
 unfolding
     receiveOf fileMessage fileOf fileProposalOf agreementOf proposalsOf readOf malformed meaningIn anyOf numberAt numbersAt inStep bytesOf messageBytes
-    bytesFor bytesForEach namesOf countsOf beyond beyondAgreement beyondProposals anyPlace weigh
+    bytesFor bytesForEach namesOf countsOf beyond beyondAgreement beyondProposals anyPlace weigh member adding removing
 rows-hold = refl

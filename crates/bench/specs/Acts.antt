@@ -13,12 +13,23 @@ use Rattle.message.specs.Logs.{Block, Log, isPrefix}
 use Rattle.message.specs.Message.{Meaning, logMessage, proposalMessage, bytesOf}
 use Rattle.bench.specs.Calendar.{lastView, Act, proposing, voting, deciding, snapping}
 
--- What an act of view v sees: the longest logs with grade 0, 1 and 2 of GA v-1, and which log to vote for, given the lock.
+-- What an act of view v sees: the log that it uses, which is the longest with the grade of GA v-1 that it reads, if there is one (the candidate, the
+-- lock or the decision); and which log to vote for, given the lock.
 pub record Seen : Type 0 where
-  pub candidate : Option Log
-  pub lock : Option Log
-  pub decision : Option Log
+  pub used : Option Log
   pub choose : Log → Log
+
+-- View 0 has no agreement before it: candidate and lock are the empty log, and there is no decision.
+abbrev pub usedFirst : Act → Option Log
+usedFirst proposing = some []
+usedFirst voting = some []
+usedFirst deciding = none
+usedFirst snapping = none
+
+-- by the grade that the act reads, if it reads one
+abbrev pub usedOfGrade : (ℕ → Option Log) → Option ℕ → Option Log
+usedOfGrade graded none = none
+usedOfGrade graded (some k) = graded k
 
 -- ---- what is made
 
@@ -46,8 +57,8 @@ inViews v m = pick (isView v) m none
 
 -- by the rows of the calendar
 unfoldable pub makes : ℕ → ℕ → Block → ℕ → Seen → Act → Option Meaning
-makes own v block priority seen proposing = inViews v (propose own v block priority (seen .candidate))
-makes own v block priority seen voting = inViews v (vote own v (seen .choose) (seen .lock))
+makes own v block priority seen proposing = inViews v (propose own v block priority (seen .used))
+makes own v block priority seen voting = inViews v (vote own v (seen .choose) (seen .used))
 makes own v block priority seen deciding = none
 makes own v block priority seen snapping = none
 
@@ -61,7 +72,7 @@ outAfter (some m) out = put out 0 (bytesOf m)
 abbrev pub decides : Seen → Act → Option Log
 decides seen proposing = none
 decides seen voting = none
-decides seen deciding = seen .decision
+decides seen deciding = seen .used
 decides seen snapping = none
 
 -- The standing decided log, and the mark *parted*: a decision was in conflict with it, which is a breach of safety.

@@ -8,24 +8,25 @@ use Rattle.message.specs.Message.{Content, logMessage, proposalMessage, senderI
 use Rattle.agreement.specs.Filing.{first, second, known}
 use Rattle.bench.specs.Layout.{Lent}
 use Rattle.bench.specs.Calls.{Reply, refused, done, took, acted, State, Opening, Step}
-use Rattle.bench.specs.declared.Bench.{Bench}
+use Rattle.bench.specs.Record.{Bench, benchOf}
+use Rattle.bench.specs.declared.Bench as struct
 use Rattle.bench.specs.declared.Start.{Start}
 use Rattle.bench.specs.declared.Start.the-variants as starts
 use Rattle.bench.specs.declared.Taken.{Taken}
 use Rattle.bench.specs.declared.Taken.the-variants as takings
 use Rattle.bench.specs.declared.Made.{Made}
 use Rattle.bench.specs.declared.Made.the-variants as makings
-use Rattle.bench.specs.declared.Started.{Started}
-use Rattle.bench.specs.declared.Received.{Received}
-use Rattle.bench.specs.declared.Acted.{Acted}
 
 -- ---- what is handed in, as the definitions take it
 
 abbrev pub lentAs : List ℕ → List ℕ → Lent
 lentAs names counts = record { names = names; counts = counts }
 
-abbrev pub stateOf : Bench → List ℕ → List ℕ → State
-stateOf b names counts = record { bench = b; lent = lentAs names counts }
+abbrev pub heldWith : Bench → List ℕ → List ℕ → State
+heldWith b names counts = record { bench = b; lent = lentAs names counts }
+
+abbrev pub stateOf : struct.Bench → List ℕ → List ℕ → State
+stateOf b names counts = heldWith (benchOf b) names counts
 
 -- ---- the code's answers, as document 01's: nothing is lost by it (Replies: the three laws `..-injective`)
 
@@ -50,30 +51,30 @@ madeReply out (makings.Log k) = acted (some (logMessage (contentMade out k)))
 madeReply out (makings.Proposal k) = acted (some (proposalMessage (contentMade out k) (priorityIn out)))
 madeReply out (makings.Refused number) = refused number
 
--- ---- a call answered so, and left record, lists and buffer so
+-- ---- a call answered so, and left record, lists and buffer so: b is what the record then holds
 
 -- The lists that Open leaves are those handed in.
-pub record OpenGives (t : Opening) (l : Lent) (r : Started) (names counts : List ℕ) : Type 0 where
-  pub answered : startReply (r .answer) ≡ t .reply
-  pub bench : r .bench ≡ t .bench
+pub record OpenGives (t : Opening) (l : Lent) (a : Start) (b : Bench) (names counts : List ℕ) : Type 0 where
+  pub answered : startReply a ≡ t .reply
+  pub bench : b ≡ t .bench
   pub nameList : names ≡ l .names
   pub countList : counts ≡ l .counts
 
-pub record BeginGives (t : Step) (r : Started) (names counts : List ℕ) : Type 0 where
-  pub answered : startReply (r .answer) ≡ t .answer .reply
-  pub bench : r .bench ≡ t .held .bench
+pub record BeginGives (t : Step) (a : Start) (b : Bench) (names counts : List ℕ) : Type 0 where
+  pub answered : startReply a ≡ t .answer .reply
+  pub bench : b ≡ t .held .bench
   pub nameList : names ≡ t .held .lent .names
   pub countList : counts ≡ t .held .lent .counts
 
-pub record ReceiveGives (t : Step) (r : Received) (names counts : List ℕ) : Type 0 where
-  pub answered : takenReply (r .answer) ≡ t .answer .reply
-  pub bench : r .bench ≡ t .held .bench
+pub record ReceiveGives (t : Step) (a : Taken) (b : Bench) (names counts : List ℕ) : Type 0 where
+  pub answered : takenReply a ≡ t .answer .reply
+  pub bench : b ≡ t .held .bench
   pub nameList : names ≡ t .held .lent .names
   pub countList : counts ≡ t .held .lent .counts
 
-pub record ActGives (t : Step) (r : Acted) (names counts out : List ℕ) : Type 0 where
-  pub answered : madeReply out (r .answer) ≡ t .answer .reply
-  pub bench : r .bench ≡ t .held .bench
+pub record ActGives (t : Step) (a : Made) (b : Bench) (names counts out : List ℕ) : Type 0 where
+  pub answered : madeReply out a ≡ t .answer .reply
+  pub bench : b ≡ t .held .bench
   pub nameList : names ≡ t .held .lent .names
   pub countList : counts ≡ t .held .lent .counts
   pub buffer : out ≡ t .answer .out

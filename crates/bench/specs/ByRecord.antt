@@ -2,7 +2,7 @@
 -- proved of (document 01, "Four calls", "Calendar of acts", "From the input", "From the state"). In each, the first failure is given, and a refusal
 -- leaves record, lists and buffer as they were. Assumes nothing.
 use Prim.Native.Nat.{ℕ, zero, suc, _+_}
-use mathlib.Core.Bool.{true, not}
+use mathlib.Core.Bool.{not}
 use mathlib.Core.List.{List, []}
 use mathlib.Core.Option.{Option, some, none}
 use lib.Dec.{ltb}
@@ -13,20 +13,18 @@ use Rattle.message.specs.Logs.{Block, Log, isPrefix, namesOf, countsOf}
 use Rattle.message.specs.Message.{Meaning, logMessage, proposalMessage, bytesOf, Reading, refused as unread, means, readOf}
 use Rattle.message.specs.Store.{logAt}
 use Rattle.agreement.specs.Limits.{mostSenders}
-use Rattle.agreement.specs.Record.{emptyAgreement, withOne, withTwo}
+use Rattle.agreement.specs.Sets.{isYes}
+use Rattle.agreement.specs.Record.{emptyAgreement, SnapshotNumber, withSnapshot, Agreement}
 use Rattle.agreement.specs.Filing.{Word, Filing, fileOf}
-use Rattle.agreement.specs.Grades.{gradeZero, gradeOne, gradeTwo}
-use Rattle.agreement.specs.Proposals.{emptyProposals, ProposalFiling, fileProposalOf}
+use Rattle.agreement.specs.Grades.{gradeOf}
+use Rattle.agreement.specs.Proposals.{emptyProposals, ProposalFiling, fileProposalOf, Proposals}
 use Rattle.agreement.specs.Kept.{keptProposal}
 use Rattle.agreement.specs.Heard.{voteAmong}
-use Rattle.agreement.specs.declared.Agreement.{Agreement}
-use Rattle.agreement.specs.declared.Proposals.{Proposals}
 use Rattle.bench.specs.Layout.{logsPlace, proposalsPlace, decidedPlace, mostBytes, Lent, shortLists, outOfRange}
-use Rattle.bench.specs.Calendar.{lastBeat, logsShut, proposalsShut, viewOf, placeIn, Act, proposing, voting, deciding, snapping, actAt}
+use Rattle.bench.specs.Calendar.{lastBeat, logsShut, proposalsShut, viewOf, placeIn, Act, actAt, gradeRead, snapshotTaken}
 use Rattle.bench.specs.Calls.{refused, done, took, acted, State, Opening, Step, openTo}
-use Rattle.bench.specs.Acts.{Seen, isView, makes, decides, Stand, outAfter}
-use Rattle.bench.specs.Record.{freshBench, agreementOf, proposalsOf, beatOf, notAboveLast, idle, withAgreement, withProposals, withGatheringOver, withDecided, withParted, beyond}
-use Rattle.bench.specs.declared.Bench.{Bench}
+use Rattle.bench.specs.Acts.{Seen, usedFirst, usedOfGrade, isView, makes, decides, Stand, outAfter}
+use Rattle.bench.specs.Record.{freshBench, agreementOf, proposalsOf, beatOf, notAboveLast, idle, withAgreement, withProposals, withGatheringOver, withDecided, withParted, beyond, Bench}
 
 -- refused by k: nothing else changes
 abbrev pub refuse : State → List ℕ → ℕ → Step
@@ -49,10 +47,10 @@ openOf n own l =
 
 -- "Views no longer open are forgotten."
 unfoldable pub keptAgreement : ℕ → Agreement → Agreement
-keptAgreement beat g = pick (logsShut (g .view) beat) (emptyAgreement 0) g
+keptAgreement beat g = pick (logsShut (g .marks .view) beat) (emptyAgreement 0) g
 
 unfoldable pub keptProposals : ℕ → Proposals → Proposals
-keptProposals beat g = pick (proposalsShut (g .view) beat) (emptyProposals 0) g
+keptProposals beat g = pick (proposalsShut (g .marks .view) beat) (emptyProposals 0) g
 
 -- the gathering of the beat is under way
 abbrev pub begunBench : Bench → ℕ → Bench
@@ -60,7 +58,7 @@ begunBench b beat = record {
   n = b .n;
   own = b .own;
   next = beat + 1;
-  gathering = true;
+  gathering = 1;
   even = keptAgreement beat (b .even);
   odd = keptAgreement beat (b .odd);
   proposals = keptProposals beat (b .proposals);
@@ -135,26 +133,14 @@ receiveOf s bytes =
 
 -- ---- what an act of view v sees
 
--- grade 0 of GA v-1; the empty log for v = 0
-unfoldable pub candidateOf : State → ℕ → Option Log
-candidateOf s zero = some []
-candidateOf s (suc u) = gradeZero (s .lent .names) (s .lent .counts) (logsPlace u) (agreementOf (s .bench) u)
+-- the log that it uses, by the agreement of the view before
+unfoldable pub usedOf : State → ℕ → Act → Option Log
+usedOf s zero a = usedFirst a
+usedOf s (suc u) a = usedOfGrade (gradeOf (s .lent .names) (s .lent .counts) (logsPlace u) (agreementOf (s .bench) u)) (gradeRead a)
 
--- grade 1, with snapshot two; the empty log for v = 0
-unfoldable pub lockOf : State → ℕ → Option Log
-lockOf s zero = some []
-lockOf s (suc u) = gradeOne (s .lent .names) (s .lent .counts) (logsPlace u) (agreementOf (s .bench) u)
-
--- grade 2, with snapshot one; none for v = 0
-unfoldable pub decisionOf : State → ℕ → Option Log
-decisionOf s zero = none
-decisionOf s (suc u) = gradeTwo (s .lent .names) (s .lent .counts) (logsPlace u) (agreementOf (s .bench) u)
-
-abbrev pub seenOf : State → ℕ → Seen
-seenOf s v = record {
-  candidate = candidateOf s v;
-  lock = lockOf s v;
-  decision = decisionOf s v;
+abbrev pub seenOf : State → ℕ → Act → Seen
+seenOf s v a = record {
+  used = usedOf s v a;
   choose = voteAmong mostSenders (keptProposal (s .lent .names) (s .lent .counts) proposalsPlace (proposalsOf (s .bench) v));
 }
 
@@ -166,7 +152,7 @@ decidedLog s = logAt (s .lent .names) (s .lent .counts) decidedPlace (s .bench .
 
 -- what stands: that log, and the mark
 abbrev pub standing : State → Stand
-standing s = record { log = decidedLog s; parted = s .bench .parted }
+standing s = record { log = decidedLog s; parted = isYes (s .bench .parted) }
 
 -- A decision does to record and lists what `settle` does to what stands (Settling: decision-settled): it extends the decided log and replaces it, is
 -- a prefix of it and changes nothing, or sets the mark.
@@ -180,25 +166,19 @@ settled s (some L) =
     })
     (pick (isPrefix L (decidedLog s)) s (record { bench = withParted (s .bench); lent = s .lent }))
 
--- the snapshots of GA v
-unfoldable pub snappedOne : ℕ → State → State
-snappedOne v s =
-    pick (isView v) (record { bench = withAgreement (s .bench) v (withOne (agreementOf (s .bench) v)); lent = s .lent }) s
+-- a snapshot of GA v
+unfoldable pub snappedBy : SnapshotNumber → ℕ → State → State
+snappedBy k v s =
+    pick (isView v) (record { bench = withAgreement (s .bench) v (withSnapshot k (agreementOf (s .bench) v)); lent = s .lent }) s
 
-unfoldable pub snappedTwo : ℕ → State → State
-snappedTwo v s =
-    pick (isView v) (record { bench = withAgreement (s .bench) v (withTwo (agreementOf (s .bench) v)); lent = s .lent }) s
-
--- at the act of its beat
-abbrev pub snapped : ℕ → Act → State → State
-snapped v proposing s = s
-snapped v voting s = s
-snapped v deciding s = snappedOne v s
-snapped v snapping s = snappedTwo v s
+-- if one is taken
+abbrev pub snapped : Option SnapshotNumber → ℕ → State → State
+snapped none v s = s
+snapped (some k) v s = snappedBy k v s
 
 -- what an act changes besides filing what it makes: it decides first, and then takes its snapshot
 unfoldable pub changed : State → ℕ → Act → State
-changed s v a = snapped v a (settled s (decides (seenOf s v) a))
+changed s v a = snapped (snapshotTaken a) v (settled s (decides (seenOf s v a) a))
 
 -- What is made is filed from its bytes, and not judged by 1 to 6 again: names are used as they stand in the lists. Within the limits of 9 the bytes
 -- hold a log.
@@ -209,7 +189,7 @@ withMade s (some m) = fileMessage s (bytesOf m) m .held
 -- the act of a row of the calendar, in view v, once the gathering is over
 unfoldable pub actedOf : State → Block → ℕ → List ℕ → ℕ → Act → Step
 actedOf s block priority out v a =
-    let made : Option Meaning = makes (s .bench .own) v block priority (seenOf s v) a in
+    let made : Option Meaning = makes (s .bench .own) v block priority (seenOf s v a) a in
     record { held = withMade (changed s v a) made; answer = record { reply = acted made; out = outAfter made out } }
 
 -- the gathering is over

@@ -2,7 +2,9 @@
 -- is one bound on the delay of a message, the field's Δ; a view is a round. Assumes nothing.
 use Prim.Native.Nat.{ℕ, zero, suc, _+_, _*_, _/_, _%_}
 use mathlib.Core.Bool.{Bool, _&&_}
+use mathlib.Core.Option.{Option, some, none}
 use lib.Dec.{leb, ltb}
+use Rattle.agreement.specs.Record.{SnapshotNumber, one, two}
 pub use Rattle.message.specs.Limits.{lastView}
 
 -- 4v: view v starts, and proposals are made
@@ -19,6 +21,10 @@ snapshotOneBeat v = 4 * v + 2
 
 abbrev pub snapshotTwoBeat : ℕ → ℕ
 snapshotTwoBeat v = 4 * v + 3
+
+abbrev pub snapshotBeat : SnapshotNumber → ℕ → ℕ
+snapshotBeat one v = snapshotOneBeat v
+snapshotBeat two v = snapshotTwoBeat v
 
 -- 4v+6: the last beat at which LOGs of view v are taken, and the one at which grade 2 of GA v is read
 abbrev pub closeBeat : ℕ → ℕ
@@ -48,6 +54,20 @@ actAt zero = proposing
 actAt (suc zero) = voting
 actAt (suc (suc zero)) = deciding
 actAt (suc (suc (suc r))) = snapping
+
+-- The grade of GA v-1 that the act of a row reads: the candidate's, the lock's, the decision's. Snapping reads none.
+abbrev pub gradeRead : Act → Option ℕ
+gradeRead proposing = some 0
+gradeRead voting = some 1
+gradeRead deciding = some 2
+gradeRead snapping = none
+
+-- the snapshot of GA v that it takes
+abbrev pub snapshotTaken : Act → Option SnapshotNumber
+snapshotTaken proposing = none
+snapshotTaken voting = none
+snapshotTaken deciding = some one
+snapshotTaken snapping = some two
 
 -- "LOGs of view v are taken at beats 4v+1 to 4v+6, PROPOSALs at 4v and 4v+1."
 abbrev pub logWindow : ℕ → ℕ → Bool

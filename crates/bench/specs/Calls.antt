@@ -10,7 +10,7 @@ use Rattle.message.specs.Message.{Meaning, logMessage, proposalMessage}
 use Rattle.agreement.specs.Filing.{Word}
 use Rattle.bench.specs.Calendar.{logWindow, proposalWindow}
 use Rattle.bench.specs.Layout.{Lent}
-use Rattle.bench.specs.declared.Bench.{Bench}
+use Rattle.bench.specs.Record.{Bench}
 
 -- A beat; a message by its bytes, wherever they lay; an offered block (name zero for none), a priority and the outgoing buffer.
 pub data Call : Type 0 where

@@ -10,14 +10,15 @@ use lib.ListN.{length}
 use Rattle.message.specs.Choice.{pick}
 use Rattle.message.specs.Logs.{Block, Log, sameLog}
 use Rattle.message.specs.Message.{Content, Meaning, logMessage, proposalMessage, Reading, refused as unread, means}
+use Rattle.agreement.specs.Record.{SnapshotNumber, one, two}
 use Rattle.agreement.specs.Filing.{Word}
 use Rattle.agreement.specs.Kept.{wordOn, sameProposal}
 use Rattle.agreement.specs.Heard.{heardLogs, votersOf, gradeNow, gradeWith, ProposalHeard, heardProposals, voteAmong}
 use Rattle.bench.specs.Terms.{Seat, weightOf, readIn}
 use Rattle.bench.specs.Layout.{Lent, shortLists, outOfRange, mostBytes}
-use Rattle.bench.specs.Calendar.{lastBeat, snapshotOneBeat, snapshotTwoBeat, viewOf, placeIn, actAt}
+use Rattle.bench.specs.Calendar.{lastBeat, snapshotBeat, viewOf, placeIn, Act, actAt, gradeRead}
 use Rattle.bench.specs.Calls.{Call, begin, receive, act, bufferIn, Reply, refused, done, took, acted, Answer, openTo}
-use Rattle.bench.specs.Acts.{Seen, makes, outAfter, decides, Stand, settle}
+use Rattle.bench.specs.Acts.{Seen, usedFirst, usedOfGrade, makes, outAfter, decides, Stand, settle}
 
 -- ---- the history
 
@@ -117,36 +118,30 @@ abbrev pub snapshotOf : ℕ → Option (List Content) → Option (ℕ → Bool)
 snapshotOf u none = none
 snapshotOf u (some heard) = some (votersOf (heardLogs heard u))
 
--- the longest log of grade 0 of GA v-1; the empty log for v = 0
-unfoldable pub candidateAt : Seat → History → ℕ → Option Log
-candidateAt S p zero = some []
-candidateAt S p (suc u) = gradeNow (S .terms .n) (weightOf (S .terms)) (heardLogs (p .heard) u)
+abbrev pub snapshotTook : History → SnapshotNumber → ℕ → Option (ℕ → Bool)
+snapshotTook p k u = snapshotOf u (heardAt (p .actions) (snapshotBeat k u))
 
--- of grade 1, with snapshot two; the empty log for v = 0
-unfoldable pub lockAt : Seat → History → ℕ → Option Log
-lockAt S p zero = some []
-lockAt S p (suc u) = gradeWith (S .terms .n) (weightOf (S .terms)) (heardLogs (p .heard) u) (snapshotOf u (heardAt (p .actions) (snapshotTwoBeat u)))
+-- the longest log with grade k of GA u: grade 0 uses no snapshot, grade 1 snapshot two, grade 2 snapshot one
+unfoldable pub gradeAt : Seat → History → ℕ → ℕ → Option Log
+gradeAt S p u zero = gradeNow (S .terms .n) (weightOf (S .terms)) (heardLogs (p .heard) u)
+gradeAt S p u (suc zero) = gradeWith (S .terms .n) (weightOf (S .terms)) (heardLogs (p .heard) u) (snapshotTook p two u)
+gradeAt S p u (suc (suc k)) = gradeWith (S .terms .n) (weightOf (S .terms)) (heardLogs (p .heard) u) (snapshotTook p one u)
 
--- of grade 2, with snapshot one; none for v = 0
-unfoldable pub decisionAt : Seat → History → ℕ → Option Log
-decisionAt S p zero = none
-decisionAt S p (suc u) = gradeWith (S .terms .n) (weightOf (S .terms)) (heardLogs (p .heard) u) (snapshotOf u (heardAt (p .actions) (snapshotOneBeat u)))
+-- the log that an act of view v uses
+unfoldable pub usedAt : Seat → History → ℕ → Act → Option Log
+usedAt S p zero a = usedFirst a
+usedAt S p (suc u) a = usedOfGrade (gradeAt S p u) (gradeRead a)
 
-abbrev pub seenAt : Seat → History → ℕ → Seen
-seenAt S p v = record {
-  candidate = candidateAt S p v;
-  lock = lockAt S p v;
-  decision = decisionAt S p v;
-  choose = voteAmong (S .terms .n) (heardProposals (p .proposals) v);
-}
+abbrev pub seenAt : Seat → History → ℕ → Act → Seen
+seenAt S p v a = record { used = usedAt S p v a; choose = voteAmong (S .terms .n) (heardProposals (p .proposals) v) }
 
 -- what an Act makes and decides at the beat that it is
 unfoldable pub madeBy : Seat → History → Block → ℕ → Option Meaning
 madeBy S p block priority =
-    makes (S .own) (viewOf (beatNow p)) block priority (seenAt S p (viewOf (beatNow p))) (actAt (placeIn (beatNow p)))
+    makes (S .own) (viewOf (beatNow p)) block priority (seenAt S p (viewOf (beatNow p)) (actAt (placeIn (beatNow p)))) (actAt (placeIn (beatNow p)))
 
 unfoldable pub decidedBy : Seat → History → Option Log
-decidedBy S p = decides (seenAt S p (viewOf (beatNow p))) (actAt (placeIn (beatNow p)))
+decidedBy S p = decides (seenAt S p (viewOf (beatNow p)) (actAt (placeIn (beatNow p)))) (actAt (placeIn (beatNow p)))
 
 -- ---- one call
 

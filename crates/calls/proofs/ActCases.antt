@@ -1,6 +1,6 @@
 -- Act, case by case, as the code finds it: its refusals, and the row of the calendar. Assumes nothing.
 use Prim.Native.Nat.{ℕ, zero, suc, _<_, _≤_}
-use mathlib.Core.List.{List}
+use mathlib.Core.List.{List, []}
 use mathlib.Core.Bool.{Bool, true, false}
 use mathlib.Core.Path.{_≡_, refl, ap, sym, subst, _∙_}
 use lib.ListN.{length}
@@ -10,109 +10,167 @@ use Rattle.bench.specs.Layout.{mostBytes, shortLists}
 use Rattle.bench.specs.Calendar.{viewOf, placeIn, Act, proposing, voting, deciding, snapping, actAt}
 use Rattle.bench.specs.Calls.{State}
 use Rattle.bench.specs.Acts.{makes}
-use Rattle.bench.specs.Record.{beatOf, idle, withGatheringOver, beyond}
-use Rattle.bench.specs.ByRecord.{refuse, settled, snappedTwo, changed, actedOf, over, actOf}
-use Rattle.bench.specs.Answers.{lentAs, stateOf, madeReply, ActGives}
-use Rattle.bench.specs.Tested.{Usable}
-use Rattle.calls.specs.Steps.{noBlock, Leaves, Snaps}
-use Rattle.bench.specs.declared.Bench.{Bench}
-use Rattle.bench.specs.declared.Acted.{Acted}
+use Rattle.bench.specs.Record.{Bench, benchFrom, beatOf, idle, beyond}
+use Rattle.bench.specs.ByRecord.{refuse, usedOf, settled, snappedBy, changed, actedOf, over, actOf}
+use Rattle.agreement.specs.Record.{one}
+use Rattle.bench.specs.Answers.{lentAs, heldWith, madeReply, ActGives}
+use Rattle.bench.specs.Tested.{Usable, Tested}
+use Rattle.bench.specs.declared.Head.{Head}
+use Rattle.bench.specs.declared.Made.{Made}
 use Rattle.bench.specs.declared.Made.the-variants as makings
 use Rattle.bench.proofs.Refusals.{act-9, act-8, act-11, act-22, act-done}
-use Rattle.bench.proofs.TestedLaws.{is-usable}
+use Rattle.bench.proofs.TestedLaws.{is-usable, within-limits, tested-over}
+use Rattle.calls.specs.Steps.{bare, noBlock, Decidable, Decides, Snaps}
+use Rattle.calls.proofs.LimitCases.{beyond-of}
 
 -- ---- the row: of a place in a view that is none of the first three
 
-pub after-second : (place : ℕ) → (place ≡ 0 → ⊥) → (place ≡ 1 → ⊥) → (place ≡ 2 → ⊥) → actAt place ≡ snapping
+after-second : (place : ℕ) → (place ≡ 0 → ⊥) → (place ≡ 1 → ⊥) → (place ≡ 2 → ⊥) → actAt place ≡ snapping
 after-second zero a b c = absurd (a refl)
 after-second (suc zero) a b c = absurd (b refl)
 after-second (suc (suc zero)) a b c = absurd (c refl)
 after-second (suc (suc (suc p))) a b c = refl
 
-module _ (b : Bench) (names counts out : List ℕ) where
-  module _ (block : Block) (priority beat : ℕ) (x : Acted) (ns cs o : List ℕ) (h : beat ≡ beatOf b) where
-    -- the act of this row at the beat of the gathering
-    row : (a : Act) → actAt (placeIn beat) ≡ a → ActGives (actedOf (over (stateOf b names counts)) block priority out (viewOf beat) a) x ns cs o
-        → ActGives (actedOf (over (stateOf b names counts)) block priority out (viewOf (beatOf b)) (actAt (placeIn (beatOf b)))) x ns cs o
-    row a e f =
-        subst
-        (λ (k : ℕ). ActGives (actedOf (over (stateOf b names counts)) block priority out (viewOf k) (actAt (placeIn k))) x ns cs o)
-        h
-        (subst (λ (r : Act). ActGives (actedOf (over (stateOf b names counts)) block priority out (viewOf beat) r) x ns cs o) (sym e) f)
+-- the head once the gathering is over
+abbrev overHead : Head → Head
+overHead h = record { next = h .next; n = h .n; own = h .own; decided = h .decided; parted = h .parted; gathering = 0; even = h .even; odd = h .odd; shown = h .shown }
 
-    pub proposed : placeIn beat ≡ 0 → ActGives (actedOf (stateOf (withGatheringOver b) names counts) block priority out (viewOf beat) proposing) x ns cs o
-        → ActGives (actedOf (over (stateOf b names counts)) block priority out (viewOf (beatOf b)) (actAt (placeIn (beatOf b)))) x ns cs o
-    proposed e f = row proposing (ap actAt e) f
+module _ (h : Head) (e o p q names counts out : List ℕ) where
+  abbrev s : State
+  s = heldWith (benchFrom h e o p q) names counts
+
+  abbrev t : State
+  t = heldWith (benchFrom (overHead h) e o p q) names counts
+
+  -- what the acts ask
+  pub asks-tested : Tested s out → Tested t out
+  asks-tested x = tested-over (benchFrom h e o p q) names counts out x
+
+  pub asks-decidable : Tested s out → Decidable (overHead h) names counts
+  asks-decidable x = record { lists = x .usable .lists; short = within-limits (benchFrom h e o p q) (x .usable .limits) .0 }
+
+  module _ (block : Block) (priority beat : ℕ) (x : Made) (c : Bench) (ns cs out′ : List ℕ) (now : beat ≡ beatOf (bare h)) where
+    -- the act of this row at the beat of the gathering
+    row : (a : Act) → actAt (placeIn beat) ≡ a → ActGives (actedOf (over s) block priority out (viewOf beat) a) x c ns cs out′
+        → ActGives (actedOf (over s) block priority out (viewOf (beatOf (bare h))) (actAt (placeIn (beatOf (bare h))))) x c ns cs out′
+    row a y f =
+        subst
+        (λ (k : ℕ). ActGives (actedOf (over s) block priority out (viewOf k) (actAt (placeIn k))) x c ns cs out′)
+        now
+        (subst (λ (r : Act). ActGives (actedOf (over s) block priority out (viewOf beat) r) x c ns cs out′) (sym y) f)
+
+    pub proposed : placeIn beat ≡ 0 → ActGives (actedOf t block priority out (viewOf beat) proposing) x c ns cs out′
+        → ActGives (actedOf (over s) block priority out (viewOf (beatOf (bare h))) (actAt (placeIn (beatOf (bare h))))) x c ns cs out′
+    proposed y f = row proposing (ap actAt y) f
 
     -- no block is used
-    vote-any : ActGives (actedOf (stateOf (withGatheringOver b) names counts) noBlock 0 out (viewOf beat) voting) x ns cs o
-        → ActGives (actedOf (over (stateOf b names counts)) block priority out (viewOf beat) voting) x ns cs o
+    vote-any : ActGives (actedOf t noBlock 0 out (viewOf beat) voting) x c ns cs out′ → ActGives (actedOf (over s) block priority out (viewOf beat) voting) x c ns cs out′
     unfolding actedOf makes
     vote-any f = f
 
-    pub voted : placeIn beat ≡ 1 → ActGives (actedOf (stateOf (withGatheringOver b) names counts) noBlock 0 out (viewOf beat) voting) x ns cs o
-        → ActGives (actedOf (over (stateOf b names counts)) block priority out (viewOf (beatOf b)) (actAt (placeIn (beatOf b)))) x ns cs o
-    voted e f = row voting (ap actAt e) (vote-any f)
+    pub voted : placeIn beat ≡ 1 → ActGives (actedOf t noBlock 0 out (viewOf beat) voting) x c ns cs out′
+        → ActGives (actedOf (over s) block priority out (viewOf (beatOf (bare h))) (actAt (placeIn (beatOf (bare h))))) x c ns cs out′
+    voted y f = row voting (ap actAt y) (vote-any f)
 
-  module _ (block : Block) (priority beat : ℕ) (c : Bench) (h : beat ≡ beatOf b) where
-    still : (ns cs : List ℕ) → Leaves (changed (over (stateOf b names counts)) (viewOf beat) deciding) c ns cs
-        → ActGives (actedOf (over (stateOf b names counts)) block priority out (viewOf beat) deciding) (record { answer = makings.Nothing; bench = c }) ns cs out
-    unfolding actedOf makes madeReply
-    still ns cs f = record { answered = refl; bench = f .bench; nameList = f .nameList; countList = f .countList; buffer = refl }
+  -- nothing is made: the state after is what the act changed
+  abbrev Left : Act → ℕ → Bench → List ℕ → List ℕ → Type 0
+  Left a v c ns cs = heldWith c ns cs ≡ changed (over s) v a
 
-    pub decided : (ns cs : List ℕ) → placeIn beat ≡ 2 → Leaves (changed (stateOf (withGatheringOver b) names counts) (viewOf beat) deciding) c ns cs
-        → ActGives (actedOf (over (stateOf b names counts)) block priority out (viewOf (beatOf b)) (actAt (placeIn (beatOf b)))) (record { answer = makings.Nothing; bench = c }) ns cs out
-    decided ns cs e f = row block priority beat (record { answer = makings.Nothing; bench = c }) ns cs out h deciding (ap actAt e) (still ns cs f)
+  decides-still : (block : Block) (priority v : ℕ) (c : Bench) (ns cs : List ℕ) → Left deciding v c ns cs
+      → ActGives (actedOf (over s) block priority out v deciding) makings.Nothing c ns cs out
+  unfolding actedOf makes madeReply
+  decides-still block priority v c ns cs y = record {
+    answered = refl;
+    bench = ap (λ (x : State). x .bench) y;
+    nameList = ap (λ (x : State). x .lent .names) y;
+    countList = ap (λ (x : State). x .lent .counts) y;
+    buffer = refl;
+  }
 
-    snaps : Snaps (snappedTwo (viewOf beat)) (withGatheringOver b) c
-        → ActGives (actedOf (over (stateOf b names counts)) block priority out (viewOf beat) snapping) (record { answer = makings.Nothing; bench = c }) names counts out
-    unfolding actedOf makes madeReply changed settled
-    snaps f =
-        let e = f .whole names counts in
-        record {
-          answered = refl;
-          bench = ap (λ (s : State). s .bench) e;
-          nameList = ap (λ (s : State). s .lent .names) e;
-          countList = ap (λ (s : State). s .lent .counts) e;
-          buffer = refl;
-        }
+  snaps-still : (block : Block) (priority v : ℕ) (c : Bench) (ns cs : List ℕ) → Left snapping v c ns cs
+      → ActGives (actedOf (over s) block priority out v snapping) makings.Nothing c ns cs out
+  unfolding actedOf makes madeReply
+  snaps-still block priority v c ns cs y = record {
+    answered = refl;
+    bench = ap (λ (x : State). x .bench) y;
+    nameList = ap (λ (x : State). x .lent .names) y;
+    countList = ap (λ (x : State). x .lent .counts) y;
+    buffer = refl;
+  }
 
-    pub snapped-two : (placeIn beat ≡ 0 → ⊥) → (placeIn beat ≡ 1 → ⊥) → (placeIn beat ≡ 2 → ⊥) → Snaps (snappedTwo (viewOf beat)) (withGatheringOver b) c
-        → ActGives (actedOf (over (stateOf b names counts)) block priority out (viewOf (beatOf b)) (actAt (placeIn (beatOf b)))) (record { answer = makings.Nothing; bench = c }) names counts out
-    snapped-two p q r f =
-        row block priority beat (record { answer = makings.Nothing; bench = c }) names counts out h snapping (after-second (placeIn beat) p q r) (snaps f)
+  -- it decides first, and then takes its snapshot
+  closes : (v : ℕ) (c r : Head) (e′ o′ ns cs : List ℕ) → Decides (overHead h) e o names counts v c ns cs → Snaps c e o v false r e′ o′
+      → Left deciding v (benchFrom r e′ o′ p q) ns cs
+  unfolding changed
+  closes v c r e′ o′ ns cs d w =
+      let l = d .whole p q in
+      let y : heldWith (benchFrom c e o p q) ns cs ≡ settled t (usedOf t v deciding) =
+      λ i. record { bench = l .bench i; lent = record { names = l .nameList i; counts = l .countList i } } in
+      w .whole p q ns cs ∙ ap (snappedBy one v) y
+
+  takes : (v : ℕ) (r : Head) (e′ o′ : List ℕ) → Snaps (overHead h) e o v true r e′ o′ → Left snapping v (benchFrom r e′ o′ p q) names counts
+  unfolding changed settled
+  takes v r e′ o′ w = w .whole p q names counts
+
+  module _ (block : Block) (priority beat : ℕ) (now : beat ≡ beatOf (bare h)) (r : Head) (e′ o′ : List ℕ) where
+    abbrev Done : List ℕ → List ℕ → Type 0
+    Done ns cs = ActGives (actedOf (over s) block priority out (viewOf (beatOf (bare h))) (actAt (placeIn (beatOf (bare h))))) makings.Nothing (benchFrom r e′ o′ p q) ns cs out
+
+    pub decided : (c : Head) (ns cs : List ℕ) → placeIn beat ≡ 2 → Decides (overHead h) e o names counts (viewOf beat) c ns cs → Snaps c e o (viewOf beat) false r e′ o′ → Done ns cs
+    decided c ns cs y d w =
+        row block priority beat makings.Nothing (benchFrom r e′ o′ p q) ns cs out now deciding (ap actAt y)
+        (decides-still block priority (viewOf beat) (benchFrom r e′ o′ p q) ns cs (closes (viewOf beat) c r e′ o′ ns cs d w))
+
+    pub snapped-two : (placeIn beat ≡ 0 → ⊥) → (placeIn beat ≡ 1 → ⊥) → (placeIn beat ≡ 2 → ⊥) → Snaps (overHead h) e o (viewOf beat) true r e′ o′ → Done names counts
+    snapped-two x y z w =
+        row block priority beat makings.Nothing (benchFrom r e′ o′ p q) names counts out now snapping (after-second (placeIn beat) x y z)
+        (snaps-still block priority (viewOf beat) (benchFrom r e′ o′ p q) names counts (takes (viewOf beat) r e′ o′ w))
+
+-- what the act asks, of its tests
+pub act-tested : (h : Head) (e o p q names counts out : List ℕ) (r : Bool) → r ≡ beyond (benchFrom h e o p []) → r ≡ false
+    → (z : Bool) → z ≡ shortLists (lentAs names counts) → z ≡ false → mostBytes ≤ length out → Tested (heldWith (benchFrom h e o p q) names counts) out
+act-tested h e o p q names counts out r x y z f u l = record {
+  usable = is-usable (benchFrom h e o p q) names counts r z (x ∙ beyond-of h e o p q) y f u;
+  room = le-ltb (length out) mostBytes l;
+}
 
 -- ---- Act's refusals
 
-module _ (b : Bench) (names counts out : List ℕ) (block : Block) (priority : ℕ) where
+module _ (h : Head) (e o p q names counts out : List ℕ) (block : Block) (priority : ℕ) where
+  abbrev held : State
+  held = heldWith (benchFrom h e o p q) names counts
+
   abbrev Refused : ℕ → Type 0
-  Refused k = ActGives (actOf (stateOf b names counts) block priority out) (record { answer = makings.Refused k; bench = b }) names counts out
+  Refused k = ActGives (actOf held block priority out) (makings.Refused k) (benchFrom h e o p q) names counts out
 
   -- refused by k: all is as it was
-  act-by : (k : ℕ) → actOf (stateOf b names counts) block priority out ≡ refuse (stateOf b names counts) out k → Refused k
+  act-by : (k : ℕ) → actOf held block priority out ≡ refuse held out k → Refused k
   unfolding madeReply
-  act-by k o = rw o (record { answered = refl; bench = refl; nameList = refl; countList = refl; buffer = refl })
+  act-by k y = rw y (record { answered = refl; bench = refl; nameList = refl; countList = refl; buffer = refl })
 
-  module _ (r : Bool) (e : r ≡ beyond b) where
+  module _ (r : Bool) (x : r ≡ beyond (benchFrom h e o p [])) where
+    whole : r ≡ beyond (benchFrom h e o p q)
+    whole = x ∙ beyond-of h e o p q
+
     pub act-by-9 : r ≡ true → Refused 9
-    act-by-9 t = act-by 9 (act-9 (stateOf b names counts) (sym e ∙ t) block priority out)
+    act-by-9 y = act-by 9 (act-9 held (sym whole ∙ y) block priority out)
 
-    module _ (t : r ≡ false) (q : Bool) (f : q ≡ shortLists (lentAs names counts)) where
-      pub act-by-8 : q ≡ true → Refused 8
-      act-by-8 u = act-by 8 (act-8 (stateOf b names counts) (sym e ∙ t) (sym f ∙ u) block priority out)
+    module _ (y : r ≡ false) (z : Bool) (f : z ≡ shortLists (lentAs names counts)) where
+      pub act-by-8 : z ≡ true → Refused 8
+      act-by-8 u = act-by 8 (act-8 held (sym whole ∙ y) (sym f ∙ u) block priority out)
 
-      module _ (u : q ≡ false) where
-        usable : Usable (stateOf b names counts)
-        usable = is-usable b names counts r q e t f u
+      module _ (u : z ≡ false) where
+        usable : Usable held
+        usable = is-usable (benchFrom h e o p q) names counts r z whole y f u
 
         pub act-by-11 : length out < mostBytes → Refused 11
-        act-by-11 l = act-by 11 (act-11 (stateOf b names counts) block priority out usable (lt-ltb (length out) mostBytes l))
+        act-by-11 l = act-by 11 (act-11 held block priority out usable (lt-ltb (length out) mostBytes l))
 
-        module _ (l : mostBytes ≤ length out) (i : Bool) (g : i ≡ idle b) where
+        module _ (l : mostBytes ≤ length out) (i : Bool) (g : i ≡ idle (bare h)) where
           pub act-by-22 : i ≡ true → Refused 22
-          act-by-22 v = act-by 22 (act-22 (stateOf b names counts) block priority out usable (le-ltb (length out) mostBytes l) (sym g ∙ v))
+          act-by-22 v = act-by 22 (act-22 held block priority out usable (le-ltb (length out) mostBytes l) (sym g ∙ v))
 
-          pub acts-by : (x : Acted) (ns cs o : List ℕ) → i ≡ false
-              → ActGives (actedOf (over (stateOf b names counts)) block priority out (viewOf (beatOf b)) (actAt (placeIn (beatOf b)))) x ns cs o
-              → ActGives (actOf (stateOf b names counts) block priority out) x ns cs o
-          acts-by x ns cs o v h = rw (act-done (stateOf b names counts) block priority out usable (le-ltb (length out) mostBytes l) (sym g ∙ v)) h
+          pub acts-by : (a : Made) (c : Bench) (ns cs out′ : List ℕ) → i ≡ false
+              → ActGives (actedOf (over held) block priority out (viewOf (beatOf (bare h))) (actAt (placeIn (beatOf (bare h))))) a c ns cs out′
+              → ActGives (actOf held block priority out) a c ns cs out′
+          acts-by a c ns cs out′ v w = rw (act-done held block priority out usable (le-ltb (length out) mostBytes l) (sym g ∙ v)) w

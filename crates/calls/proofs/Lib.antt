@@ -1,11 +1,12 @@
--- Laws of the definitions that the proofs of the code cite.
--- What the code finds, case by case:
-pub mod RecordCases
+-- Laws that the proofs of functions cite.
 pub mod LimitCases
-pub mod CallCases
+pub mod RecordCases
+pub mod FilingCases
+pub mod ReceiveCases
 pub mod SeeingLaws
-pub mod DecidingLaws
 pub mod WrittenLaws
 pub mod MakingLaws
+pub mod DecidingLaws
 pub mod ActCases
+pub mod CallCases
 pub mod ReadingCases

@@ -17,18 +17,20 @@ use Rattle.message.proofs.ListedLaws.{length-at}
 use Rattle.bench.specs.Calendar.{Act, proposing, voting}
 use Rattle.bench.specs.Calls.{State}
 use Rattle.bench.specs.Acts.{propose, vote, makes}
-use Rattle.bench.specs.ByRecord.{settled, changed, candidateOf, lockOf, seenOf, actedOf}
-use Rattle.bench.specs.Answers.{stateOf, madeReply, ActGives}
-use Rattle.bench.specs.Tested.{Tested}
-use Rattle.calls.specs.Steps.{foundLog, FoundBefore, Finds, ballot, ballotOf, Making, madeStep, noBlock}
+use Rattle.bench.specs.ByRecord.{settled, changed, usedOf, seenOf, actedOf}
+use Rattle.bench.specs.Answers.{heldWith, madeReply, ActGives}
+use Rattle.bench.specs.Tested.{Tested, Before}
+use Rattle.calls.specs.Steps.{foundLog, FoundBefore, Finds, ballot, ballotOf, Making, madeStep, LogMade, ProposalMade, noBlock}
 use Rattle.agreement.specs.Limits.{placeOf}
 use Rattle.agreement.specs.Grades.{Gives}
 use Rattle.agreement.specs.declared.Grade.{Grade}
 use Rattle.agreement.specs.declared.Grade.the-variants.{Longest, Nothing}
 use Rattle.bench.specs.Layout.{logsPlace}
-use Rattle.bench.specs.declared.Bench.{Bench}
-use Rattle.calls.proofs.SeeingLaws.{seen-none, seen-at}
-use Rattle.bench.specs.declared.Acted.{Acted}
+use Rattle.bench.specs.Record.{Bench, benchFrom}
+use Rattle.bench.specs.declared.Head.{Head}
+use Rattle.calls.proofs.SeeingLaws.{used-whole, seen-none, seen-at}
+use Rattle.bench.specs.declared.ActedHead.{ActedHead}
+use Rattle.bench.specs.declared.Made.{Made}
 use Rattle.calls.specs.declared.seeing.Found.{Found}
 use Rattle.calls.specs.declared.seeing.Found.the-variants.{At, Nowhere}
 use Rattle.bench.specs.declared.Made.the-variants as makings
@@ -40,16 +42,16 @@ unfolding changed settled
 nothing-changed s v = (refl, refl)
 
 module _ (s : State) (block : Block) (priority : ℕ) (out : List ℕ) (v : ℕ) (a : Act) (e : changed s v a ≡ s) where
-  acts-none : makes (s .bench .own) v block priority (seenOf s v) a ≡ none
-      → ActGives (actedOf s block priority out v a) (record { answer = makings.Nothing; bench = s .bench }) (s .lent .names) (s .lent .counts) out
+  acts-none : makes (s .bench .own) v block priority (seenOf s v a) a ≡ none
+      → ActGives (actedOf s block priority out v a) makings.Nothing (s .bench) (s .lent .names) (s .lent .counts) out
   unfolding actedOf madeReply
   acts-none q = rw (e, q) (record { answered = refl; bench = refl; nameList = refl; countList = refl; buffer = refl })
 
-  acts-made : (m : Meaning) (r : Acted) (ns cs o : List ℕ) → makes (s .bench .own) v block priority (seenOf s v) a ≡ some m
-      → ActGives (madeStep s out m) r ns cs o
-      → ActGives (actedOf s block priority out v a) r ns cs o
+  acts-made : (m : Meaning) (r : Made) (c : Bench) (ns cs o : List ℕ) → makes (s .bench .own) v block priority (seenOf s v a) a ≡ some m
+      → ActGives (madeStep s out m) r c ns cs o
+      → ActGives (actedOf s block priority out v a) r c ns cs o
   unfolding actedOf
-  acts-made m r ns cs o q t = rw (e, q) t
+  acts-made m r c ns cs o q t = rw (e, q) t
 
 -- ---- what the rules make
 
@@ -82,45 +84,57 @@ module _ (own v : ℕ) (block : Block) (priority : ℕ) (C : Log) (e : eqb (bloc
 early : (v name : ℕ) → (ltb lastView v || eqb name 0) ≡ false → v ≤ lastView
 early v name e = ltb-false lastView v (or-false (ltb lastView v) (eqb name 0) e .0)
 
-module _ (b : Bench) (names counts out : List ℕ) (v : ℕ) where
+module _ (h : Head) (e o p q names counts out : List ℕ) (v : ℕ) where
+  abbrev b : Bench
+  b = benchFrom h e o p q
+
   abbrev s : State
-  s = stateOf b names counts
+  s = heldWith b names counts
 
   -- nothing is made
   abbrev Still : Block → ℕ → Act → Type 0
-  Still block priority a = ActGives (actedOf s block priority out v a) (record { answer = makings.Nothing; bench = b }) names counts out
+  Still block priority a = ActGives (actedOf s block priority out v a) makings.Nothing b names counts out
+
+  asked : (a k : ℕ) → Tested s out → v ≤ lastView → Before a k → Making names counts out v a k
+  asked a k t l x = record { lists = t .usable .lists; room = t .room; early = l; before = x }
 
   -- ---- voting
 
   pub vote-late : lastView < v → Still noBlock 0 voting
   unfolding makes
-  vote-late h = acts-none s noBlock 0 out v voting (nothing-changed s v .1) (rw (lt-leb v lastView h))
+  vote-late l = acts-none s noBlock 0 out v voting (nothing-changed s v .1) (rw (lt-leb v lastView l))
 
-  module _ (r : Found) (h : v ≤ lastView) (f : Finds (ballotOf s v) names counts r) where
-    vote-made : makes (b .own) v noBlock 0 (seenOf s v) voting ≡ votedFor (b .own) v (foundLog names counts r)
+  module _ (r : Found) (l : v ≤ lastView) (f : Finds (ballotOf s v) names counts r) where
+    vote-made : makes (h .own) v noBlock 0 (seenOf s v voting) voting ≡ votedFor (h .own) v (foundLog names counts r)
     unfolding makes
-    vote-made = rw (le-leb v lastView h) (vote-for (b .own) v (seenOf s v .choose) (lockOf s v) ∙ ap (votedFor (b .own) v) (sym (f .log)))
+    vote-made = rw (le-leb v lastView l) (vote-for (h .own) v (seenOf s v voting .choose) (usedOf s v voting) ∙ ap (votedFor (h .own) v) (sym (f .log)))
 
     pub vote-nowhere : r ≡ Nowhere → Still noBlock 0 voting
-    vote-nowhere e =
-        acts-none s noBlock 0 out v voting (nothing-changed s v .1) (vote-made ∙ ap (λ (x : Found). votedFor (b .own) v (foundLog names counts x)) e)
+    vote-nowhere t =
+        acts-none s noBlock 0 out v voting (nothing-changed s v .1) (vote-made ∙ ap (λ (x : Found). votedFor (h .own) v (foundLog names counts x)) t)
 
-    module _ (a k : ℕ) (e : r ≡ At a k) where
-      pub vote-making : Tested s out → Making s out v a k
-      vote-making t = record { tested = t; early = h; before = subst FoundBefore e (f .before) }
+    module _ (a k : ℕ) (t : r ≡ At a k) where
+      pub vote-making : Tested s out → Making names counts out v a k
+      vote-making x = asked a k x l (subst FoundBefore t (f .before))
 
-      pub vote-acts : (x : Acted) (ns cs o : List ℕ) → ActGives (madeStep s out (logFrom names counts a k (b .own) v)) x ns cs o
-          → ActGives (actedOf s noBlock 0 out v voting) x ns cs o
-      vote-acts x ns cs o t =
-          acts-made s noBlock 0 out v voting (nothing-changed s v .1) (logFrom names counts a k (b .own) v) x ns cs o
-          (vote-made ∙ ap (λ (y : Found). votedFor (b .own) v (foundLog names counts y)) e) t
+      pub vote-acts : (x : ActedHead) (e′ o′ ns cs out′ : List ℕ) → LogMade h e o names counts out v a k x e′ o′ ns cs out′
+          → ActGives (actedOf s noBlock 0 out v voting) (x .answer) (benchFrom (x .head) e′ o′ p q) ns cs out′
+      vote-acts x e′ o′ ns cs out′ m =
+          acts-made s noBlock 0 out v voting (nothing-changed s v .1) (logFrom names counts a k (h .own) v) (x .answer) (benchFrom (x .head) e′ o′ p q) ns cs out′
+          (vote-made ∙ ap (λ (y : Found). votedFor (h .own) v (foundLog names counts y)) t) (m .whole p q)
 
   -- ---- proposing
 
-  pub propose-making : (name : ℕ) → (ltb lastView v || eqb name 0) ≡ false → (g : Grade) → Gives (candidateOf s v) names counts (logsPlace (v - 1)) g
-      → (i k a : ℕ) → g ≡ Longest i k → a ≡ placeOf (logsPlace (v - 1)) i → Tested s out → Making s out v a k
-  propose-making name e g w i k a q p t =
-      record { tested = t; early = early v name e; before = seen-at (candidateOf s v) names counts v g w i k a q p .before }
+  -- the candidate, as the code found it
+  abbrev Candidate : Grade → Type 0
+  Candidate g = Gives (usedOf (heldWith (benchFrom h e o [] []) names counts) v proposing) names counts (logsPlace (v - 1)) g
+
+  candidate : (g : Grade) → Candidate g → Gives (usedOf s v proposing) names counts (logsPlace (v - 1)) g
+  candidate g w = record { log = w .log ∙ used-whole h e o p q names counts v proposing; placed = w .placed }
+
+  pub propose-making : (name : ℕ) → (ltb lastView v || eqb name 0) ≡ false → (g : Grade) → Candidate g
+      → (i k a : ℕ) → g ≡ Longest i k → a ≡ placeOf (logsPlace (v - 1)) i → k < mostBlocks → Tested s out → (Making names counts out v a k) × (k < mostBlocks)
+  propose-making name x g w i k a y z few t = (asked a k t (early v name x) (seen-at _ names counts v g w i k a y z .before), few)
 
   module _ (name count priority : ℕ) where
     abbrev block : Block
@@ -128,43 +142,43 @@ module _ (b : Bench) (names counts out : List ℕ) (v : ℕ) where
 
     pub propose-late : (ltb lastView v || eqb name 0) ≡ true → Still block priority proposing
     unfolding makes
-    propose-late e =
+    propose-late x =
         acts-none s block priority out v proposing (nothing-changed s v .0)
         (either (leb v lastView)
-        (λ t. rw t (unnamed (b .own) v block priority (candidateOf s v) (rw (le-ltb lastView v (leb-true v lastView t)) at e)))
+        (λ t. rw t (unnamed (h .own) v block priority (usedOf s v proposing) (rw (le-ltb lastView v (leb-true v lastView t)) at x)))
         (λ t. rw t))
 
-    module _ (e : (ltb lastView v || eqb name 0) ≡ false) (g : Grade) (w : Gives (candidateOf s v) names counts (logsPlace (v - 1)) g) where
+    module _ (x : (ltb lastView v || eqb name 0) ≡ false) (g : Grade) (w : Candidate g) where
       -- what is proposed, of the candidate that was found
-      propose-made : (r : Found) → Finds (candidateOf s v) names counts r
-          → makes (b .own) v block priority (seenOf s v) proposing ≡ propose (b .own) v block priority (foundLog names counts r)
+      propose-made : (r : Found) → Finds (usedOf s v proposing) names counts r
+          → makes (h .own) v block priority (seenOf s v proposing) proposing ≡ propose (h .own) v block priority (foundLog names counts r)
       unfolding makes
-      propose-made r f = rw (le-leb v lastView (early v name e)) (ap (propose (b .own) v block priority) (sym (f .log)))
+      propose-made r f = rw (le-leb v lastView (early v name x)) (ap (propose (h .own) v block priority) (sym (f .log)))
 
       pub propose-nobody : g ≡ Nothing → Still block priority proposing
       unfolding propose
-      propose-nobody q =
-          acts-none s block priority out v proposing (nothing-changed s v .0) (propose-made Nowhere (seen-none (candidateOf s v) names counts v g w q))
+      propose-nobody y =
+          acts-none s block priority out v proposing (nothing-changed s v .0) (propose-made Nowhere (seen-none (usedOf s v proposing) names counts v g (candidate g w) y))
 
-      module _ (i k : ℕ) (q : g ≡ Longest i k) where
+      module _ (i k : ℕ) (y : g ≡ Longest i k) where
         propose-at : (a : ℕ) → a ≡ placeOf (logsPlace (v - 1)) i
-            → makes (b .own) v block priority (seenOf s v) proposing ≡ propose (b .own) v block priority (some (logAt names counts a k))
-        propose-at a p = propose-made (At a k) (seen-at (candidateOf s v) names counts v g w i k a q p)
+            → makes (h .own) v block priority (seenOf s v proposing) proposing ≡ propose (h .own) v block priority (some (logAt names counts a k))
+        propose-at a z = propose-made (At a k) (seen-at (usedOf s v proposing) names counts v g (candidate g w) i k a y z)
 
         named : eqb name 0 ≡ false
-        named = or-false (ltb lastView v) (eqb name 0) e .1
+        named = or-false (ltb lastView v) (eqb name 0) x .1
 
         pub propose-full : mostBlocks ≤ k → Still block priority proposing
-        propose-full h =
+        propose-full few =
             let a = placeOf (logsPlace (v - 1)) i in
             let l = length-at names counts a k in
             acts-none s block priority out v proposing (nothing-changed s v .0)
-            (propose-at a refl ∙ no-room (b .own) v block priority (logAt names counts a k) named (omega arith))
+            (propose-at a refl ∙ no-room (h .own) v block priority (logAt names counts a k) named (omega arith))
 
-        pub propose-acts : (a : ℕ) → a ≡ placeOf (logsPlace (v - 1)) i → k < mostBlocks → (x : Acted) (ns cs o : List ℕ)
-            → ActGives (madeStep s out (proposalFrom names counts a k block (b .own) v priority)) x ns cs o
-            → ActGives (actedOf s block priority out v proposing) x ns cs o
-        propose-acts a p h x ns cs o t =
+        pub propose-acts : (a : ℕ) → a ≡ placeOf (logsPlace (v - 1)) i → k < mostBlocks → (z : ActedHead) (p′ q′ ns cs out′ : List ℕ)
+            → ProposalMade h p q names counts out v a k block priority z p′ q′ ns cs out′
+            → ActGives (actedOf s block priority out v proposing) (z .answer) (benchFrom (z .head) e o p′ q′) ns cs out′
+        propose-acts a at few z p′ q′ ns cs out′ m =
             let l = length-at names counts a k in
-            acts-made s block priority out v proposing (nothing-changed s v .0) (proposalFrom names counts a k block (b .own) v priority) x ns cs o
-            (propose-at a p ∙ proposed (b .own) v block priority (logAt names counts a k) named (omega arith)) t
+            acts-made s block priority out v proposing (nothing-changed s v .0) (proposalFrom names counts a k block (h .own) v priority) (z .answer) (benchFrom (z .head) e o p′ q′) ns cs out′
+            (propose-at a at ∙ proposed (h .own) v block priority (logAt names counts a k) named (omega arith)) (m .whole e o)

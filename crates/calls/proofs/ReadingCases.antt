@@ -1,94 +1,45 @@
--- What an act reads, part by part, as the code finds it. Assumes nothing.
+-- What an act reads, with its counts, case by case as the code finds it. Assumes nothing.
 use Prim.Native.Nat.{ℕ, zero, suc, _-_, _≤_, _<_}
 use native.Mathlib.Omega.{arith}
 use mathlib.Core.Bool.{Bool, true, false, _||_}
-use mathlib.Core.List.{List}
-use mathlib.Core.Option.{Option}
+use mathlib.Core.List.{List, []}
+use mathlib.Core.Option.{Option, some, none}
 use mathlib.Core.Path.{_≡_, refl, sym, ap, subst, _∙_}
+use borrow.Author.Tests.{eq-eqb, ne-eqb}
 use Rattle.message.specs.Limits.{mostBlocks}
 use Rattle.message.specs.Logs.{Log}
-use Rattle.message.specs.Choice.{pick}
 use Rattle.message.proofs.ListedLaws.{log-empty}
 use Rattle.agreement.specs.Limits.{mostSenders, placeOf}
-use Rattle.agreement.specs.Sets.{weigh, count}
-use Rattle.agreement.specs.Reading.{maySupport, supports}
-use Rattle.agreement.specs.Record.{emptyAgreement, isSender, lacksRoom, overlong}
-use Rattle.agreement.specs.Grades.{logOf, Placed, Gives}
+use Rattle.agreement.specs.Sets.{count}
+use Rattle.agreement.specs.Record.{Agreement, agreementFrom, isSender}
+use Rattle.agreement.specs.Grades.{snapshotFor, logOf, Placed, Gives}
 use Rattle.agreement.specs.Tally.{supportersOf, supportersAt}
-use Rattle.agreement.specs.declared.Agreement.{Agreement}
+use Rattle.agreement.specs.declared.Marks.{Marks}
+use Rattle.agreement.specs.declared.Snapshot.{Snapshot}
 use Rattle.agreement.specs.declared.Grade.{Grade}
 use Rattle.agreement.specs.declared.Grade.the-variants.{Longest, Nothing}
 use Rattle.agreement.proofs.TallyLaws.{supporters-placed}
-use Rattle.bench.specs.Layout.{logsPlace}
-use Rattle.bench.specs.Calendar.{viewOf, placeIn, Act, proposing, voting, deciding, snapping, actAt}
+use Rattle.agreement.proofs.EmptyLaws.{empty-senders, empty-supporters}
+use Rattle.bench.specs.Layout.{isEven, logsPlace}
+use Rattle.bench.specs.Calendar.{Act, actAt, gradeRead, viewOf, placeIn}
 use Rattle.bench.specs.Calls.{State}
-use Rattle.bench.specs.Record.{agreementOf, beatOf}
-use Rattle.bench.specs.ByRecord.{candidateOf, lockOf, decisionOf}
-use Rattle.bench.specs.Answers.{stateOf}
-use Rattle.bench.specs.Readings.{usedBy, agreementBefore, readBy, amongBy, orEmpty, sendersRead, supportersRead, ReadingGives}
-use Rattle.bench.specs.declared.Bench.{Bench}
+use Rattle.bench.specs.Record.{Bench, benchFrom, ofView, agreementOf, beatOf}
+use Rattle.bench.specs.ByRecord.{usedOf}
+use Rattle.bench.specs.Answers.{heldWith}
+use Rattle.bench.specs.Readings.{agreementBefore, readOfGrade, amongOfGrade, orEmpty, sendersRead, supportersRead, ReadingGives}
+use Rattle.bench.specs.declared.Head.{Head}
 use Rattle.bench.specs.declared.Counted.{Counted}
-use Rattle.calls.proofs.ActCases.{after-second}
+use Rattle.calls.specs.Steps.{bare, CountsIn}
+use Rattle.calls.proofs.FilingCases.{read-even, read-odd}
+use Rattle.calls.proofs.SeeingLaws.{used-whole, grade-read, late-act}
 
--- ---- the log used, by the act's place in its view
+-- ---- how many support the log of a grade
 
-module _ (b : Bench) (names counts : List ℕ) (v place : ℕ) (base : ℕ) (r : Grade) where
-  abbrev s : State
-  s = stateOf b names counts
+module _ (names counts : List ℕ) (base : ℕ) (m : Marks) (lengths : List ℕ) (among n : ℕ) (r : Grade) where
+  abbrev g : Agreement
+  g = agreementFrom m lengths
 
-  pub used-proposing : place ≡ 0 → Gives (candidateOf s v) names counts base r → Gives (usedBy s v (actAt place)) names counts base r
-  used-proposing e h = rw e h
-
-  pub used-voting : place ≡ 1 → Gives (lockOf s v) names counts base r → Gives (usedBy s v (actAt place)) names counts base r
-  used-voting e h = rw e h
-
-  pub used-deciding : place ≡ 2 → Gives (decisionOf s v) names counts base r → Gives (usedBy s v (actAt place)) names counts base r
-  used-deciding e h = rw e h
-
-pub used-none : (b : Bench) (names counts : List ℕ) (v place base : ℕ) → (place ≡ 0 → ⊥) → (place ≡ 1 → ⊥) → (place ≡ 2 → ⊥)
-    → Gives (usedBy (stateOf b names counts) v (actAt place)) names counts base Nothing
-used-none b names counts v place base h i j = rw (after-second place h i j) (record { log = refl; placed = tt })
-
--- ---- the agreement read
-
-before-later : (b : Bench) (v : ℕ) → (v ≡ 0 → ⊥) → agreementOf b (v - 1) ≡ agreementBefore b v
-unfolding agreementBefore
-before-later b zero h = absurd (h refl)
-before-later b (suc u) h = ap (agreementOf b) (omega arith)
-
-reads-before : (b : Bench) (v place : ℕ) → place ≤ 2 → agreementBefore b v ≡ readBy b v (actAt place)
-reads-before b v zero h = refl
-reads-before b v (suc zero) h = refl
-reads-before b v (suc (suc zero)) h = refl
-reads-before b v (suc (suc (suc p))) h = absurd (omega arith)
-
-module _ (b : Bench) (v place : ℕ) (g : Agreement) where
-  pub read-none : 2 < place → g ≡ emptyAgreement 0 → g ≡ readBy b v (actAt place)
-  read-none h e = rw (after-second place (λ p. omega arith) (λ p. omega arith) (λ p. omega arith)) e
-
-  pub read-first : place ≤ 2 → v ≡ 0 → g ≡ emptyAgreement 0 → g ≡ readBy b v (actAt place)
-  unfolding agreementBefore
-  read-first h z e = e ∙ ap (agreementBefore b) (sym z) ∙ reads-before b v place h
-
-  pub read-later : place ≤ 2 → (v ≡ 0 → ⊥) → g ≡ agreementOf b (v - 1) → g ≡ readBy b v (actAt place)
-  read-later h n e = e ∙ before-later b v n ∙ reads-before b v place h
-
-pub logs-first : (v : ℕ) → v ≡ 0 → 0 ≡ logsPlace (v - 1)
-logs-first v e = rw e refl
-
--- ---- who may support
-
-pub among-all : (g : Agreement) (place : ℕ) → (place ≡ 1 → ⊥) → (place ≡ 2 → ⊥) → g .voters ≡ amongBy g (actAt place)
-among-all g zero h i = refl
-among-all g (suc zero) h i = absurd (h refl)
-among-all g (suc (suc zero)) h i = absurd (i refl)
-among-all g (suc (suc (suc p))) h i = refl
-
--- ---- how many support
-
-module _ (names counts : List ℕ) (base : ℕ) (g : Agreement) (among : List Bool) (n : ℕ) (r : Grade) where
-  pub tally-empty : r ≡ Nothing → n ≡ supportersAt names counts base g among 0 0
-      → n ≡ supportersOf names counts base g among (orEmpty (logOf names counts base r))
+  pub tally-empty : r ≡ Nothing → n ≡ supportersAt names counts base g among 0 0 → n ≡ supportersOf names counts base g among (orEmpty (logOf names counts base r))
   tally-empty e h =
       h
       ∙ supporters-placed names counts base g among 0 0 (omega arith) (omega arith)
@@ -103,50 +54,133 @@ module _ (names counts : List ℕ) (base : ℕ) (g : Agreement) (among : List Bo
       ∙ supporters-placed names counts base g among i k few short
       ∙ ap (λ (x : Grade). supportersOf names counts base g among (orEmpty (logOf names counts base x))) (sym e)
 
--- ---- all of it
+-- ---- in a slot
 
-module _ (b : Bench) (names counts : List ℕ) (v : ℕ) (a : Act) (r : Grade)
-    (used : Gives (usedBy (stateOf b names counts) v a) names counts (logsPlace (v - 1)) r) where
-  pub read-so : (g : Agreement) (base n m : ℕ) (among : List Bool) → g ≡ readBy b v a → base ≡ logsPlace (v - 1) → among ≡ amongBy g a
-      → n ≡ supportersOf names counts base g among (orEmpty (logOf names counts base r)) → n ≤ mostSenders → m ≡ count mostSenders (isSender g)
-      → m ≤ mostSenders → ReadingGives (stateOf b names counts) v a (record { grade = r; supporters = n; senders = m })
-  read-so g base n m among eg eb ea en few em short = record {
-    grade = used;
-    supporters =
-        en
-        ∙ ap (λ (x : ℕ). supportersOf names counts x g among (orEmpty (logOf names counts x r))) eb
-        ∙ ap (λ (o : Option Log). supportersOf names counts (logsPlace (v - 1)) g among (orEmpty o)) (used .log)
-        ∙ ap (λ (x : List Bool). supportersOf names counts (logsPlace (v - 1)) g x (orEmpty (usedBy (stateOf b names counts) v a))) ea
-        ∙ ap (λ (h : Agreement). supportersOf names counts (logsPlace (v - 1)) h (amongBy h a) (orEmpty (usedBy (stateOf b names counts) v a))) eg;
-    fewSupporters = few;
-    senders = em ∙ ap (λ (h : Agreement). count mostSenders (isSender h)) eg;
-    fewSenders = short;
-  }
+module _ (names counts : List ℕ) (base v k : ℕ) (m : Marks) (lengths : List ℕ) (grade : Grade) where
+  pub counted-view : (s : Snapshot) (x y : ℕ) → m .view ≡ v → s ≡ snapshotFor k m
+      → (x ≡ supportersOf names counts base (agreementFrom m lengths) (s .senders) (orEmpty (logOf names counts base grade))) × (x ≤ mostSenders)
+      → (y ≡ count mostSenders (isSender (agreementFrom m lengths))) × (y ≤ mostSenders)
+      → CountsIn names counts base (ofView (agreementFrom m lengths) v) k grade (record { grade = grade; supporters = x; senders = y })
+  counted-view s x y e q (a, b) (c, d) =
+      rw (eq-eqb (m .view) v e)
+      (record {
+        same = refl;
+        supporters = a ∙ ap (λ (z : Snapshot). supportersOf names counts base (agreementFrom m lengths) (z .senders) (orEmpty (logOf names counts base grade))) q;
+        fewSupporters = b;
+        senders = c;
+        fewSenders = d;
+      })
 
-pub read-now : (b : Bench) (names counts : List ℕ) (beat : ℕ) (r : Counted) → beat ≡ beatOf b
-    → ReadingGives (stateOf b names counts) (viewOf beat) (actAt (placeIn beat)) r
-    → ReadingGives (stateOf b names counts) (viewOf (beatOf b)) (actAt (placeIn (beatOf b))) r
-read-now b names counts beat r e h = subst (λ (k : ℕ). ReadingGives (stateOf b names counts) (viewOf k) (actAt (placeIn k)) r) e h
+  pub counted-none : (m .view ≡ v → ⊥) → CountsIn names counts base (ofView (agreementFrom m lengths) v) k grade (record { grade = grade; supporters = 0; senders = 0 })
+  counted-none e =
+      rw (ne-eqb (m .view) v e)
+      (record {
+        same = refl;
+        supporters = sym (empty-supporters names counts base v _ _);
+        fewSupporters = omega arith;
+        senders = sym (empty-senders v);
+        fewSenders = omega arith;
+      })
 
--- ---- where no agreement is read, nobody is heard
+-- ---- what the act reads
 
-either-way : (t : Bool) (n : ℕ) → pick t n n ≡ n
-either-way true n = refl
-either-way false n = refl
+later-before : (b : Bench) (v : ℕ) → (v ≡ 0 → ⊥) → agreementOf b (v - 1) ≡ agreementBefore b v
+unfolding agreementBefore
+later-before b zero h = absurd (h refl)
+later-before b (suc u) h = ap (agreementOf b) (omega arith)
 
-nobody : (names counts : List ℕ) (base : ℕ) (among : List Bool) (L : Log) → supportersOf names counts base (emptyAgreement 0) among L ≡ 0
-unfolding supportersOf weigh supports maySupport
-nobody names counts base among L = either-way (lacksRoom names counts base || overlong (emptyAgreement 0 .lengths)) 0
+-- the counts of an agreement, by the grade that is read
+abbrev heard : Agreement → Option ℕ → ℕ
+heard g o = count mostSenders (isSender (readOfGrade g o))
 
--- in view 0
-pub none-first : (s : State) (a : Act) → (sendersRead s 0 a ≡ 0) × (supportersRead s 0 a ≡ 0)
-unfolding weigh agreementBefore
-none-first s proposing = (refl, nobody _ _ _ _ _)
-none-first s voting = (refl, nobody _ _ _ _ _)
-none-first s deciding = (refl, nobody _ _ _ _ _)
-none-first s snapping = (refl, nobody _ _ _ _ _)
+abbrev behind : List ℕ → List ℕ → ℕ → Agreement → Log → Option ℕ → ℕ
+behind names counts base g L o = supportersOf names counts base (readOfGrade g o) (amongOfGrade (readOfGrade g o) o) L
 
--- at the beat of snapshot two
-pub none-snapping : (s : State) (v : ℕ) → (sendersRead s v snapping ≡ 0) × (supportersRead s v snapping ≡ 0)
-unfolding weigh
-none-snapping s v = (refl, nobody _ _ _ _ _)
+-- in view 0 nothing was before
+first-none : (names counts : List ℕ) (base : ℕ) (b : Bench) (L : Log) (o : Option ℕ)
+    → (heard (agreementBefore b 0) o ≡ 0) × (behind names counts base (agreementBefore b 0) L o ≡ 0)
+unfolding agreementBefore
+first-none names counts base b L none = (empty-senders 0, empty-supporters names counts base 0 _ L)
+first-none names counts base b L (some k) = (empty-senders 0, empty-supporters names counts base 0 _ L)
+
+module _ (h : Head) (e o names counts : List ℕ) (v place : ℕ) (r : Grade) where
+  abbrev b : Bench
+  b = benchFrom h e o [] []
+
+  abbrev s : State
+  s = heldWith b names counts
+
+  module _ (u : Gives (usedOf s v (actAt place)) names counts (logsPlace (v - 1)) r) where
+    abbrev Reads : Counted → Type 0
+    Reads c = ReadingGives s v (actAt place) c
+
+    nobody : (sendersRead s v (actAt place) ≡ 0) × (supportersRead s v (actAt place) ≡ 0) → Reads (record { grade = r; supporters = 0; senders = 0 })
+    nobody (x, y) = record { grade = u; supporters = sym y; fewSupporters = omega arith; senders = sym x; fewSenders = omega arith }
+
+    -- snapshot two reads none
+    pub read-late : 2 < place → Reads (record { grade = r; supporters = 0; senders = 0 })
+    read-late l =
+        let x = ap gradeRead (late-act place l) in
+        nobody (
+          ap (heard (agreementBefore b v)) x ∙ empty-senders 0,
+          ap (behind names counts (logsPlace (v - 1)) (agreementBefore b v) (orEmpty (usedOf s v (actAt place)))) x ∙ empty-supporters names counts _ 0 _ _,
+        )
+
+    pub read-first : v ≡ 0 → Reads (record { grade = r; supporters = 0; senders = 0 })
+    read-first z =
+        nobody
+        (subst (λ (k : ℕ). (heard (agreementBefore b k) (gradeRead (actAt place)) ≡ 0)
+        × (behind names counts (logsPlace (v - 1)) (agreementBefore b k) (orEmpty (usedOf s v (actAt place))) (gradeRead (actAt place)) ≡ 0))
+        (sym z) (first-none names counts (logsPlace (v - 1)) b (orEmpty (usedOf s v (actAt place))) (gradeRead (actAt place))))
+
+    module _ (later : v ≡ 0 → ⊥) (few : place ≤ 2) (base : ℕ) (at : base ≡ logsPlace (v - 1)) (x : Bool) (q : x ≡ isEven (v - 1)) (c : Counted) where
+      counted : (g : Agreement) → g ≡ agreementOf b (v - 1) → CountsIn names counts base g place r c → Reads c
+      counted g y w =
+          let before : g ≡ agreementBefore b v = y ∙ later-before b v later in
+          let asked : some place ≡ gradeRead (actAt place) = sym (grade-read place few) in
+          record {
+            grade = subst (Gives (usedOf s v (actAt place)) names counts (logsPlace (v - 1))) (sym (w .same)) u;
+            supporters = w .supporters
+                ∙ ap (λ (a : ℕ). supportersOf names counts a g (snapshotFor place (g .marks) .senders) (orEmpty (logOf names counts a r))) at
+                ∙ ap (λ (L : Option Log). supportersOf names counts (logsPlace (v - 1)) g (snapshotFor place (g .marks) .senders) (orEmpty L)) (u .log)
+                ∙ ap (λ (a : Agreement). behind names counts (logsPlace (v - 1)) a (orEmpty (usedOf s v (actAt place))) (some place)) before
+                ∙ ap (behind names counts (logsPlace (v - 1)) (agreementBefore b v) (orEmpty (usedOf s v (actAt place)))) asked;
+            fewSupporters = w .fewSupporters;
+            senders = w .senders ∙ ap (λ (a : Agreement). heard a (some place)) before ∙ ap (heard (agreementBefore b v)) asked;
+            fewSenders = w .fewSenders;
+          }
+
+      pub read-even-slot : x ≡ true → CountsIn names counts base (ofView (agreementFrom (h .even) e) (v - 1)) place r c → Reads c
+      read-even-slot t w = counted _ (read-even x (v - 1) q b t) w
+
+      pub read-odd-slot : x ≡ false → CountsIn names counts base (ofView (agreementFrom (h .odd) o) (v - 1)) place r c → Reads c
+      read-odd-slot t w = counted _ (read-odd x (v - 1) q b t) w
+
+-- ---- the act of the head's beat
+
+pub read-now : (h : Head) (e o names counts : List ℕ) (beat : ℕ) (c : Counted) → beat ≡ beatOf (bare h)
+    → ReadingGives (heldWith (benchFrom h e o [] []) names counts) (viewOf beat) (actAt (placeIn beat)) c
+    → ReadingGives (heldWith (benchFrom h e o [] []) names counts) (viewOf (beatOf (bare h))) (actAt (placeIn (beatOf (bare h)))) c
+read-now h e o names counts beat c at w =
+    subst (λ (k : ℕ). ReadingGives (heldWith (benchFrom h e o [] []) names counts) (viewOf k) (actAt (placeIn k)) c) at w
+
+-- the proposals do not matter
+before-whole : (h : Head) (e o p q : List ℕ) (v : ℕ) → agreementBefore (benchFrom h e o [] []) v ≡ agreementBefore (benchFrom h e o p q) v
+unfolding agreementBefore agreementOf
+before-whole h e o p q zero = refl
+before-whole h e o p q (suc u) = refl
+
+pub read-whole : (h : Head) (e o p q names counts : List ℕ) (v : ℕ) (a : Act) (c : Counted) → ReadingGives (heldWith (benchFrom h e o [] []) names counts) v a c
+    → ReadingGives (heldWith (benchFrom h e o p q) names counts) v a c
+read-whole h e o p q names counts v a c w =
+    let x : usedOf (heldWith (benchFrom h e o [] []) names counts) v a ≡ usedOf (heldWith (benchFrom h e o p q) names counts) v a = used-whole h e o p q names counts v a in
+    let y : agreementBefore (benchFrom h e o [] []) v ≡ agreementBefore (benchFrom h e o p q) v = before-whole h e o p q v in
+    record {
+      grade = record { log = w .grade .log ∙ x; placed = w .grade .placed };
+      supporters = w .supporters
+          ∙ ap (λ (L : Option Log). behind names counts (logsPlace (v - 1)) (agreementBefore (benchFrom h e o [] []) v) (orEmpty L) (gradeRead a)) x
+          ∙ ap (λ (g : Agreement). behind names counts (logsPlace (v - 1)) g (orEmpty (usedOf (heldWith (benchFrom h e o p q) names counts) v a)) (gradeRead a)) y;
+      fewSupporters = w .fewSupporters;
+      senders = w .senders ∙ ap (λ (g : Agreement). heard g (gradeRead a)) y;
+      fewSenders = w .fewSenders;
+    }

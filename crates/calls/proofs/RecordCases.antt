@@ -1,98 +1,100 @@
--- The record's parts, case by case, as the code finds them. Assumes nothing.
-use Prim.Native.Nat.{ℕ, _+_, _-_}
+-- The record by its parts, as the code makes it. Assumes nothing.
+use Prim.Native.Nat.{ℕ, _+_}
 use mathlib.Core.Bool.{Bool, true, false}
-use mathlib.Core.Path.{_≡_, refl}
-use Rattle.agreement.specs.Limits.{span}
-use Rattle.agreement.specs.Record.{emptyAgreement}
-use Rattle.agreement.specs.Proposals.{emptyProposals}
-use Rattle.agreement.specs.declared.Agreement.{Agreement}
-use Rattle.agreement.specs.declared.Proposals.{Proposals}
+use mathlib.Core.List.{List}
+use mathlib.Core.Path.{_≡_, _∙_}
 use borrow.Author.Tests.{eq-eqb, ne-eqb}
+use lib.ListN.{replicate}
+use Rattle.agreement.specs.Limits.{mostSenders, span}
+use Rattle.agreement.specs.Record.{agreementFrom, emptyMarks}
+use Rattle.agreement.specs.Proposals.{proposalsFrom, emptyShown}
+use Rattle.agreement.specs.declared.Marks.{Marks}
+use Rattle.agreement.specs.declared.Shown.{Shown}
 use Rattle.bench.specs.Layout.{isEven, logsPlace}
 use Rattle.bench.specs.Calendar.{logsShut, proposalsShut}
-use Rattle.bench.specs.Record.{freshBench, ofView, agreementOf, proposalsOf, withEven, withOdd, withAgreement}
+use Rattle.bench.specs.Record.{benchFrom, freshBench, ofView, proposedIn}
 use Rattle.bench.specs.ByRecord.{keptAgreement, keptProposals, begunBench}
-use Rattle.bench.specs.declared.Bench.{Bench}
+use Rattle.bench.specs.declared.Head.{Head}
 
--- ---- the record whole
+-- ---- fresh, and begun
 
-module _ (even odd : Agreement) (proposals : Proposals) where
-  pub fresh-is : (n own : ℕ) → even ≡ emptyAgreement 0 → odd ≡ emptyAgreement 0 → proposals ≡ emptyProposals 0
-      → record { n = n; own = own; next = 0; gathering = false; even = even; odd = odd; proposals = proposals; decided = 0; parted = false } ≡ freshBench n own
-  fresh-is n own e f g = rw (e, f, g)
+module _ (n own : ℕ) (even odd : Marks) (shown : Shown) where
+  abbrev zeros : List ℕ
+  zeros = replicate mostSenders 0
 
-  pub begun-is : (b : Bench) (beat : ℕ) → even ≡ keptAgreement beat (b .even) → odd ≡ keptAgreement beat (b .odd)
-      → proposals ≡ keptProposals beat (b .proposals)
-      → record {
-        n = b .n;
-        own = b .own;
+  pub fresh-is : even ≡ emptyMarks 0 → odd ≡ emptyMarks 0 → shown ≡ emptyShown 0
+      → benchFrom (record { next = 0; n = n; own = own; decided = 0; parted = 0; gathering = 0; even = even; odd = odd; shown = shown }) zeros zeros zeros zeros ≡ freshBench n own
+  fresh-is e f g = rw (e, f, g)
+
+module _ (h : Head) (beat : ℕ) (even odd : Marks) (shown : Shown) (e o p q e′ o′ p′ q′ : List ℕ) where
+  pub begun-is : agreementFrom even e′ ≡ keptAgreement beat (agreementFrom (h .even) e) → agreementFrom odd o′ ≡ keptAgreement beat (agreementFrom (h .odd) o)
+      → proposalsFrom shown p′ q′ ≡ keptProposals beat (proposalsFrom (h .shown) p q)
+      → benchFrom (record {
         next = beat + 1;
-        gathering = true;
+        n = h .n;
+        own = h .own;
+        decided = h .decided;
+        parted = h .parted;
+        gathering = 1;
         even = even;
         odd = odd;
-        proposals = proposals;
-        decided = b .decided;
-        parted = b .parted;
-      } ≡ begunBench b beat
-  begun-is b beat e f g = rw (e, f, g)
+        shown = shown;
+      }) e′ o′ p′ q′ ≡ begunBench (benchFrom h e o p q) beat
+  begun-is a b c = λ i. record {
+    n = h .n;
+    own = h .own;
+    next = beat + 1;
+    gathering = 1;
+    even = a i;
+    odd = b i;
+    proposals = c i;
+    decided = h .decided;
+    parted = h .parted;
+  }
 
 -- ---- by the view of what is filed
 
-pub view-is : (g : Agreement) (v : ℕ) → g .view ≡ v → g ≡ ofView g v
-view-is g v e = rw (eq-eqb (g .view) v e) refl
+pub view-is : (m : Marks) (lengths : List ℕ) (v : ℕ) → m .view ≡ v → agreementFrom m lengths ≡ ofView (agreementFrom m lengths) v
+view-is m lengths v e = rw (eq-eqb (m .view) v e)
 
-pub view-is-not : (g h : Agreement) (v : ℕ) → (g .view ≡ v → ⊥) → h ≡ emptyAgreement v → h ≡ ofView g v
-view-is-not g h v n e = rw (ne-eqb (g .view) v n) e
+pub view-is-not : (m k : Marks) (lengths ls : List ℕ) (v : ℕ) → (m .view ≡ v → ⊥) → ls ≡ replicate mostSenders 0 → k ≡ emptyMarks v
+    → agreementFrom k ls ≡ ofView (agreementFrom m lengths) v
+view-is-not m k lengths ls v n e f = rw (ne-eqb (m .view) v n) (λ i. agreementFrom (f i) (e i))
 
-pub proposals-are : (b : Bench) (v : ℕ) → b .proposals .view ≡ v → b .proposals ≡ proposalsOf b v
-unfolding proposalsOf
-proposals-are b v e = rw (eq-eqb (b .proposals .view) v e) refl
+pub proposed-is : (m : Shown) (lengths priorities : List ℕ) (v : ℕ) → m .view ≡ v → proposalsFrom m lengths priorities ≡ proposedIn (proposalsFrom m lengths priorities) v
+proposed-is m lengths priorities v e = rw (eq-eqb (m .view) v e)
 
-pub proposals-are-not : (b : Bench) (h : Proposals) (v : ℕ) → (b .proposals .view ≡ v → ⊥) → h ≡ emptyProposals v → h ≡ proposalsOf b v
-unfolding proposalsOf
-proposals-are-not b h v n e = rw (ne-eqb (b .proposals .view) v n) e
+pub proposed-is-not : (m k : Shown) (lengths priorities ls ps : List ℕ) (v : ℕ) → (m .view ≡ v → ⊥) → ls ≡ replicate mostSenders 0 → ps ≡ replicate mostSenders 0
+    → k ≡ emptyShown v → proposalsFrom k ls ps ≡ proposedIn (proposalsFrom m lengths priorities) v
+proposed-is-not m k lengths priorities ls ps v n e f g = rw (ne-eqb (m .view) v n) (λ i. proposalsFrom (g i) (e i) (f i))
 
 -- ---- by the parity of a view
 
 module _ (r : Bool) (v : ℕ) (e : r ≡ isEven v) where
   pub place-even : r ≡ true → 0 ≡ logsPlace v
-  place-even t = rw (← e, t) refl
+  place-even t = rw (← e, t)
 
   pub place-odd : r ≡ false → span ≡ logsPlace v
-  place-odd t = rw (← e, t) refl
-
-  module _ (b : Bench) where
-    pub of-even : (g : Agreement) → r ≡ true → g ≡ ofView (b .even) v → g ≡ agreementOf b v
-    unfolding agreementOf
-    of-even g t h = rw (← e, t) h
-
-    pub of-odd : (g : Agreement) → r ≡ false → g ≡ ofView (b .odd) v → g ≡ agreementOf b v
-    unfolding agreementOf
-    of-odd g t h = rw (← e, t) h
-
-    pub with-even : (g : Agreement) → r ≡ true → withEven b g ≡ withAgreement b v g
-    unfolding withAgreement
-    with-even g t = rw (← e, t) refl
-
-    pub with-odd : (g : Agreement) → r ≡ false → withOdd b g ≡ withAgreement b v g
-    unfolding withAgreement
-    with-odd g t = rw (← e, t) refl
+  place-odd t = rw (← e, t)
 
 -- ---- what is forgotten
 
 module _ (r : Bool) (beat : ℕ) where
-  pub forgets : (g h : Agreement) → r ≡ logsShut (g .view) beat → r ≡ true → h ≡ emptyAgreement 0 → h ≡ keptAgreement beat g
+  pub forgets : (m k : Marks) (lengths ls : List ℕ) → r ≡ logsShut (m .view) beat → r ≡ true → ls ≡ replicate mostSenders 0 → k ≡ emptyMarks 0
+      → agreementFrom k ls ≡ keptAgreement beat (agreementFrom m lengths)
   unfolding keptAgreement
-  forgets g h e t w = rw (← e, t) w
+  forgets m k lengths ls e t f g = rw (← e, t) (λ i. agreementFrom (g i) (f i))
 
-  pub keeps : (g : Agreement) → r ≡ logsShut (g .view) beat → r ≡ false → g ≡ keptAgreement beat g
+  pub keeps : (m : Marks) (lengths : List ℕ) → r ≡ logsShut (m .view) beat → r ≡ false → agreementFrom m lengths ≡ keptAgreement beat (agreementFrom m lengths)
   unfolding keptAgreement
-  keeps g e t = rw (← e, t) refl
+  keeps m lengths e t = rw (← e, t)
 
-  pub forgets-proposals : (g h : Proposals) → r ≡ proposalsShut (g .view) beat → r ≡ true → h ≡ emptyProposals 0 → h ≡ keptProposals beat g
+  pub forgets-proposals : (m k : Shown) (lengths priorities ls ps : List ℕ) → r ≡ proposalsShut (m .view) beat → r ≡ true → ls ≡ replicate mostSenders 0
+      → ps ≡ replicate mostSenders 0 → k ≡ emptyShown 0 → proposalsFrom k ls ps ≡ keptProposals beat (proposalsFrom m lengths priorities)
   unfolding keptProposals
-  forgets-proposals g h e t w = rw (← e, t) w
+  forgets-proposals m k lengths priorities ls ps e t f g h = rw (← e, t) (λ i. proposalsFrom (h i) (f i) (g i))
 
-  pub keeps-proposals : (g : Proposals) → r ≡ proposalsShut (g .view) beat → r ≡ false → g ≡ keptProposals beat g
+  pub keeps-proposals : (m : Shown) (lengths priorities : List ℕ) → r ≡ proposalsShut (m .view) beat → r ≡ false
+      → proposalsFrom m lengths priorities ≡ keptProposals beat (proposalsFrom m lengths priorities)
   unfolding keptProposals
-  keeps-proposals g e t = rw (← e, t) refl
+  keeps-proposals m lengths priorities e t = rw (← e, t)

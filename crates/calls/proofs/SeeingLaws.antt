@@ -1,42 +1,159 @@
 -- What an act sees, as the code finds it: a grade's log and the log voted for, each by its place in the lists. Assumes nothing.
-use Prim.Native.Nat.{ℕ, suc, _+_, _-_, _*_, _≤_, _<_}
+use Prim.Native.Nat.{ℕ, zero, suc, _+_, _-_, _*_, _≤_, _<_}
 use native.Mathlib.Omega.{arith}
-use mathlib.Core.Bool.{true, false}
+use mathlib.Core.Bool.{Bool, true, false}
 use mathlib.Core.List.{List, []}
-use mathlib.Core.Option.{Option, some}
+use mathlib.Core.Option.{Option, some, none, Option·none-ne-some}
 use mathlib.Core.Path.{_≡_, refl, sym, ap, subst, _∙_}
-use borrow.Author.Tests.{le-ltb}
+use borrow.Author.Tests.{eq-eqb, ne-eqb, le-ltb}
+use lib.Dec.{eqb}
 use lib.ListN.{length, getD}
 use Rattle.message.specs.Limits.{mostBlocks}
 use Rattle.message.specs.Logs.{Log}
 use Rattle.message.specs.Store.{logAt, within}
+use Rattle.message.proofs.TestLaws.{either}
 use Rattle.message.proofs.ListedLaws.{log-empty}
 use Rattle.agreement.specs.Limits.{mostSenders, span, placeOf}
-use Rattle.agreement.specs.Record.{lacksRoom}
-use Rattle.agreement.specs.Grades.{gradeZero, gradeOne, gradeTwo, logOf, Placed, Gives}
-use Rattle.agreement.specs.Kept.{Kept, nothing, Proposed, keptProposal}
+use Rattle.agreement.specs.Record.{Agreement, agreementFrom, lacksRoom}
+use Rattle.agreement.specs.Kept.{Kept, Proposed, keptProposal}
 use Rattle.agreement.specs.Heard.{orLock}
-use Rattle.agreement.specs.Proposals.{choiceOf, chosen, Chooses}
-use Rattle.agreement.specs.declared.Agreement.{Agreement}
-use Rattle.agreement.specs.declared.Proposals.{Proposals}
+use Rattle.agreement.specs.Grades.{gradeOf, logOf, Placed, Gives}
+use Rattle.agreement.specs.Proposals.{Proposals, proposalsFrom, choiceOf, chosen, Chooses}
+use Rattle.agreement.specs.declared.Marks.{Marks}
+use Rattle.agreement.specs.declared.Shown.{Shown}
 use Rattle.agreement.specs.declared.Grade.{Grade}
 use Rattle.agreement.specs.declared.Grade.the-variants.{Longest, Nothing}
 use Rattle.agreement.specs.declared.Choice.{Choice}
 use Rattle.agreement.specs.declared.Choice.the-variants.{Proposal, Lock}
 use Rattle.agreement.proofs.ChoiceLaws.{best-place, choice-fits}
 use Rattle.agreement.proofs.RecordLaws.{choice-voted, fits-log}
-use Rattle.bench.specs.Layout.{logsPlace, proposalsPlace, decidedPlace}
+use Rattle.agreement.proofs.EmptyLaws.{empty-grade, empty-choice}
+use Rattle.bench.specs.Layout.{isEven, logsPlace, proposalsPlace, decidedPlace}
+use Rattle.bench.specs.Calendar.{Act, voting, snapping, actAt, gradeRead}
+use Rattle.bench.specs.Acts.{usedFirst}
 use Rattle.bench.specs.Calls.{State}
-use Rattle.bench.specs.Record.{agreementOf, proposalsOf}
-use Rattle.bench.specs.ByRecord.{candidateOf, lockOf, decisionOf, seenOf}
-use Rattle.bench.specs.Answers.{lentAs, stateOf}
+use Rattle.bench.specs.Record.{Bench, benchFrom, ofView, agreementOf, proposedIn, proposalsOf}
+use Rattle.bench.specs.ByRecord.{usedOf, seenOf}
+use Rattle.bench.specs.Answers.{lentAs, heldWith}
 use Rattle.bench.specs.Tested.{Usable}
-use Rattle.calls.specs.Steps.{Finds, ballot, ballotOf}
-use Rattle.bench.specs.declared.Bench.{Bench}
-use Rattle.calls.specs.declared.seeing.Found.the-variants.{At, Nowhere}
 use Rattle.bench.proofs.TestedLaws.{within-limits, lists-roomy, before-within}
 use Rattle.bench.proofs.Buffer.{proposed-short}
 use Rattle.bench.proofs.Filling.{logs-low}
+use Rattle.bench.specs.declared.Head.{Head}
+use Rattle.calls.specs.Steps.{Finds, ballot, ballotOf}
+use Rattle.calls.specs.declared.seeing.Found.the-variants.{At, Nowhere}
+use Rattle.calls.proofs.FilingCases.{read-even, read-odd}
+
+-- ---- places
+
+pub place-first : (v i : ℕ) → v ≡ 0 → mostBlocks * i ≡ placeOf (logsPlace (v - 1)) i
+place-first v i e = rw e (omega arith)
+
+pub place-later : (v i base : ℕ) → base ≡ logsPlace (v - 1) → base + mostBlocks * i ≡ placeOf (logsPlace (v - 1)) i
+place-later v i base e = ap (λ (x : ℕ). x + mostBlocks * i) e
+
+-- ---- a grade in a slot
+
+module _ (names counts : List ℕ) (base v k : ℕ) (m : Marks) (lengths : List ℕ) where
+  pub of-its-view : (r : Grade) → m .view ≡ v → Gives (gradeOf names counts base (agreementFrom m lengths) k) names counts base r
+      → Gives (gradeOf names counts base (ofView (agreementFrom m lengths) v) k) names counts base r
+  of-its-view r e g = rw (eq-eqb (m .view) v e) g
+
+  pub of-another : (m .view ≡ v → ⊥) → Gives (gradeOf names counts base (ofView (agreementFrom m lengths) v) k) names counts base Nothing
+  of-another e = rw (ne-eqb (m .view) v e) (record { log = sym (empty-grade names counts base v k); placed = tt })
+
+-- ---- the log used
+
+-- the empty log
+empty-given : (names counts : List ℕ) (base : ℕ) → Gives (some []) names counts base (Longest 0 0)
+empty-given names counts base = record { log = ap some (log-empty names counts (placeOf base 0) 0 (omega arith)); placed = (omega arith, omega arith) }
+
+pub grade-read : (place : ℕ) → place ≤ 2 → gradeRead (actAt place) ≡ some place
+grade-read zero l = refl
+grade-read (suc zero) l = refl
+grade-read (suc (suc zero)) l = refl
+grade-read (suc (suc (suc r))) l = absurd (omega arith)
+
+pub late-act : (place : ℕ) → 2 < place → actAt place ≡ snapping
+late-act zero l = absurd (omega arith)
+late-act (suc zero) l = absurd (omega arith)
+late-act (suc (suc zero)) l = absurd (omega arith)
+late-act (suc (suc (suc r))) l = refl
+
+first-used : (place : ℕ) → place < 2 → usedFirst (actAt place) ≡ some []
+first-used zero l = refl
+first-used (suc zero) l = refl
+first-used (suc (suc r)) l = absurd (omega arith)
+
+first-unused : (place : ℕ) → 2 ≤ place → usedFirst (actAt place) ≡ none
+first-unused zero l = absurd (omega arith)
+first-unused (suc zero) l = absurd (omega arith)
+first-unused (suc (suc zero)) l = refl
+first-unused (suc (suc (suc r))) l = refl
+
+module _ (h : Head) (e o names counts : List ℕ) (v place : ℕ) where
+  abbrev b : Bench
+  b = benchFrom h e o [] []
+
+  abbrev Used : Grade → Type 0
+  Used r = Gives (usedOf (heldWith b names counts) v (actAt place)) names counts (logsPlace (v - 1)) r
+
+  used-none : (o : Option Log) → usedOf (heldWith b names counts) v (actAt place) ≡ none → Used Nothing
+  used-none o q = record { log = sym q; placed = tt }
+
+  snapping-none : (u : ℕ) → usedOf (heldWith b names counts) u snapping ≡ none
+  unfolding usedOf
+  snapping-none zero = refl
+  snapping-none (suc u) = refl
+
+  pub used-late : 2 < place → Used Nothing
+  used-late l = record { log = sym (ap (usedOf (heldWith b names counts) v) (late-act place l) ∙ snapping-none v); placed = tt }
+
+  pub used-first : v ≡ 0 → place < 2 → Used (Longest 0 0)
+  unfolding usedOf
+  used-first z l = rw (z, first-used place l) (empty-given names counts (logsPlace 0))
+
+  pub used-not-first : v ≡ 0 → 2 ≤ place → Used Nothing
+  unfolding usedOf
+  used-not-first z l = rw (z, first-unused place l) (record { log = refl; placed = tt })
+
+  module _ (later : v ≡ 0 → ⊥) (few : place ≤ 2) (base : ℕ) (at : base ≡ logsPlace (v - 1)) (x : Bool) (q : x ≡ isEven (v - 1)) (r : Grade) where
+    used-later : gradeOf names counts (logsPlace (v - 1)) (agreementOf b (v - 1)) place ≡ usedOf (heldWith b names counts) v (actAt place)
+    unfolding usedOf
+    used-later = go v later
+      where
+        go : (v : ℕ) → (v ≡ 0 → ⊥) → gradeOf names counts (logsPlace (v - 1)) (agreementOf b (v - 1)) place ≡ usedOf (heldWith b names counts) v (actAt place)
+        go zero n = absurd (n refl)
+        go (suc u) n = let y : suc u - 1 ≡ u = omega arith in rw (grade-read place few, y)
+
+    given : (g : Agreement) → g ≡ agreementOf b (v - 1) → Gives (gradeOf names counts base g place) names counts base r → Used r
+    given g y w = record {
+      log = ap (λ (k : ℕ). logOf names counts k r) (sym at) ∙ w .log ∙ (λ i. gradeOf names counts (at i) (y i) place) ∙ used-later;
+      placed = w .placed;
+    }
+
+    pub used-even : x ≡ true → Gives (gradeOf names counts base (ofView (agreementFrom (h .even) e) (v - 1)) place) names counts base r → Used r
+    used-even t w = given _ (read-even x (v - 1) q b t) w
+
+    pub used-odd : x ≡ false → Gives (gradeOf names counts base (ofView (agreementFrom (h .odd) o) (v - 1)) place) names counts base r → Used r
+    used-odd t w = given _ (read-odd x (v - 1) q b t) w
+
+-- no array but those of the agreements matters to it
+used-same : (h : Head) (e o p s p′ s′ names counts : List ℕ) (v : ℕ) (a : Act)
+    → usedOf (heldWith (benchFrom h e o p s) names counts) v a ≡ usedOf (heldWith (benchFrom h e o p′ s′) names counts) v a
+unfolding usedOf agreementOf
+used-same h e o p s p′ s′ names counts zero a = refl
+used-same h e o p s p′ s′ names counts (suc u) a = refl
+
+-- ---- the proposals of the view
+
+module _ (names counts : List ℕ) (v a k : ℕ) (m : Shown) (p s : List ℕ) where
+  pub best-of-view : (c : Choice) → m .view ≡ v → Chooses (choiceOf names counts proposalsPlace (proposalsFrom m p s) a k) c
+      → Chooses (choiceOf names counts proposalsPlace (proposedIn (proposalsFrom m p s) v) a k) c
+  best-of-view c e w = rw (eq-eqb (m .view) v e) w
+
+  pub best-of-none : (m .view ≡ v → ⊥) → Chooses (choiceOf names counts proposalsPlace (proposedIn (proposalsFrom m p s) v) a k) Lock
+  best-of-none e = rw (ne-eqb (m .view) v e) (record { sender = sym (empty-choice names counts proposalsPlace v a k); place = tt })
 
 -- ---- a grade's answer, as a place in the lists
 
@@ -56,79 +173,30 @@ module _ (o : Option Log) (names counts : List ℕ) (v : ℕ) (r : Grade) (w : G
         before = (ends-before (logsPlace (v - 1)) i k at (omega (arith, l)) few short p, short);
       }
 
--- the place itself
-pub place-first : (v i : ℕ) → v ≡ 0 → mostBlocks * i ≡ placeOf (logsPlace (v - 1)) i
-place-first v i e = rw e (omega arith)
+-- ---- the vote
 
-pub place-later : (v i base : ℕ) → base ≡ logsPlace (v - 1) → base + mostBlocks * i ≡ placeOf (logsPlace (v - 1)) i
-place-later v i base e = ap (λ (x : ℕ). x + mostBlocks * i) e
+module _ (h : Head) (e o p s names counts : List ℕ) (v : ℕ) where
+  abbrev whole : State
+  whole = heldWith (benchFrom h e o p s) names counts
 
--- the empty log, for v = 0
-empty-given : (names counts : List ℕ) (base : ℕ) → Gives (some []) names counts base (Longest 0 0)
-empty-given names counts base = record { log = ap some (log-empty names counts (placeOf base 0) 0 (omega arith)); placed = (omega arith, omega arith) }
+  -- the proposals do not matter to the log used
+  pub used-whole : (a : Act) → usedOf (heldWith (benchFrom h e o [] []) names counts) v a ≡ usedOf whole v a
+  used-whole a = used-same h e o [] [] p s names counts v a
 
-module _ (b : Bench) (names counts : List ℕ) (v : ℕ) where
-  abbrev s : State
-  s = stateOf b names counts
+  module _ (r : Grade) (g : Gives (usedOf (heldWith (benchFrom h e o [] []) names counts) v voting) names counts (logsPlace (v - 1)) r) where
+    pub ballot-none : r ≡ Nothing → Finds (ballotOf whole v) names counts Nowhere
+    ballot-none t = record { log = ap (ballot (seenOf whole v voting .choose)) (seen-none _ names counts v r g t .log ∙ used-whole voting); before = tt }
 
-  -- ---- the grades of the view before
+    module _ (u : Usable whole) (i k a : ℕ) (t : r ≡ Longest i k) (at : a ≡ placeOf (logsPlace (v - 1)) i)
+        (choice : Choice) (w : Chooses (choiceOf names counts proposalsPlace (proposedIn (proposalsFrom (h .shown) p s) v) a k) choice) where
+      abbrev filed : Proposals
+      filed = proposalsOf (benchFrom h e o p s) v
 
-  module _ (e : v ≡ 0) where
-    pub candidate-first : Gives (candidateOf s v) names counts (logsPlace (v - 1)) (Longest 0 0)
-    unfolding candidateOf
-    candidate-first = rw e (empty-given names counts (logsPlace 0))
-
-    pub lock-first : Gives (lockOf s v) names counts (logsPlace (v - 1)) (Longest 0 0)
-    unfolding lockOf
-    lock-first = rw e (empty-given names counts (logsPlace 0))
-
-    pub decision-first : Gives (decisionOf s v) names counts (logsPlace (v - 1)) Nothing
-    unfolding decisionOf
-    decision-first = rw e (record { log = refl; placed = tt })
-
-  module _ (base : ℕ) (g : Agreement) (r : Grade) (later : v ≡ 0 → ⊥) (eb : base ≡ logsPlace (v - 1)) (eg : g ≡ agreementOf b (v - 1)) where
-    is-later : v ≡ suc (v - 1)
-    is-later = omega arith
-
-    -- what is given of the view before, whichever the grade
-    given : (seen : ℕ → Option Log) (grade : ℕ → Agreement → Option Log) → ((u : ℕ) → seen (suc u) ≡ grade (logsPlace u) (agreementOf b u))
-        → Gives (grade base g) names counts base r → Gives (seen v) names counts (logsPlace (v - 1)) r
-    given seen grade same w = record {
-      log =
-          ap (λ (x : ℕ). logOf names counts x r) (sym eb)
-          ∙ w .log
-          ∙ (λ i. grade (eb i) (eg i))
-          ∙ sym (same (v - 1))
-          ∙ sym (ap seen is-later);
-      placed = w .placed;
-    }
-
-    pub candidate-later : Gives (gradeZero names counts base g) names counts base r → Gives (candidateOf s v) names counts (logsPlace (v - 1)) r
-    unfolding candidateOf
-    candidate-later = given (candidateOf s) (gradeZero names counts) (λ u. refl)
-
-    pub lock-later : Gives (gradeOne names counts base g) names counts base r → Gives (lockOf s v) names counts (logsPlace (v - 1)) r
-    unfolding lockOf
-    lock-later = given (lockOf s) (gradeOne names counts) (λ u. refl)
-
-    pub decision-later : Gives (gradeTwo names counts base g) names counts base r → Gives (decisionOf s v) names counts (logsPlace (v - 1)) r
-    unfolding decisionOf
-    decision-later = given (decisionOf s) (gradeTwo names counts) (λ u. refl)
-
-  -- ---- the vote
-
-  module _ (r : Grade) (given : Gives (lockOf s v) names counts (logsPlace (v - 1)) r) where
-    pub ballot-none : r ≡ Nothing → Finds (ballotOf s v) names counts Nowhere
-    ballot-none e = record { log = ap (ballot (seenOf s v .choose)) (seen-none (lockOf s v) names counts v r given e .log); before = tt }
-
-    module _ (u : Usable s) (i k a : ℕ) (e : r ≡ Longest i k)
-        (p : a ≡ placeOf (logsPlace (v - 1)) i) (g : Proposals) (eg : g ≡ proposalsOf b v)
-        (choice : Choice) (w : Chooses (choiceOf names counts proposalsPlace g a k) choice) where
-      lock : Finds (lockOf s v) names counts (At a k)
-      lock = seen-at (lockOf s v) names counts v r given i k a e p
+      lock : Finds (usedOf whole v voting) names counts (At a k)
+      lock = let f = seen-at _ names counts v r g i k a t at in record { log = f .log ∙ used-whole voting; before = f .before }
 
       abbrev kept : ℕ → Kept Proposed
-      kept = keptProposal names counts proposalsPlace (proposalsOf b v)
+      kept = keptProposal names counts proposalsPlace filed
 
       abbrev L : Log
       L = logAt names counts a k
@@ -141,36 +209,43 @@ module _ (b : Bench) (names counts : List ℕ) (v : ℕ) where
       lock-within : within names counts a k ≡ true
       lock-within = before-within (lentAs names counts) (u .lists) a k (lock .before)
 
-      short : (i : ℕ) → i < mostSenders → getD (proposalsOf b v .lengths) i 0 ≤ mostBlocks
-      short = proposed-short b (within-limits b (u .limits) .1) v
+      short : (i : ℕ) → i < mostSenders → getD (filed .lengths) i 0 ≤ mostBlocks
+      short = proposed-short (benchFrom h e o p s) (within-limits (benchFrom h e o p s) (u .limits) .1) v
 
-      choice-is : choiceOf names counts proposalsPlace (proposalsOf b v) a k ≡ chosen choice
-      choice-is = sym (w .sender ∙ ap (λ (h : Proposals). choiceOf names counts proposalsPlace h a k) eg)
+      choice-is : choiceOf names counts proposalsPlace filed a k ≡ chosen choice
+      unfolding proposalsOf
+      choice-is = sym (w .sender)
 
       -- the log that a choice stands for
       abbrev votedFor : Choice → Log
       votedFor x = orLock kept L (chosen x)
 
-      voted : some (votedFor choice) ≡ ballotOf s v
+      voted : some (votedFor choice) ≡ ballotOf whole v
       voted =
           ap (λ (o : Option ℕ). some (orLock kept L o)) (sym choice-is)
-          ∙ ap some (choice-voted names counts proposalsPlace (proposalsOf b v) a k room short lock-within)
-          ∙ ap (ballot (seenOf s v .choose)) (lock .log)
+          ∙ ap some (choice-voted names counts proposalsPlace filed a k room short lock-within)
+          ∙ ap (ballot (seenOf whole v voting .choose)) (lock .log)
 
-      pub ballot-lock : choice ≡ Lock → Finds (ballotOf s v) names counts (At a k)
+      pub ballot-lock : choice ≡ Lock → Finds (ballotOf whole v) names counts (At a k)
       ballot-lock c = record { log = ap (λ (x : Choice). some (votedFor x)) (sym c) ∙ voted; before = lock .before }
 
-      pub ballot-proposal : (j : ℕ) → choice ≡ Proposal j
-          → Finds (ballotOf s v) names counts (At (proposalsPlace + mostBlocks * j) (getD (g .lengths) j 0))
+      -- a proposal that is voted for is of the view, so its length stands in the array
+      own-length : (j : ℕ) → choice ≡ Proposal j → getD p j 0 ≡ getD (filed .lengths) j 0
+      unfolding proposalsOf
+      own-length j c =
+          either (eqb (h .shown .view) v) (λ q. rw q)
+          (λ q. absurd (Option·none-ne-some j (sym (empty-choice names counts proposalsPlace v a k) ∙ sym (rw q at w .sender) ∙ ap chosen c)))
+
+      pub ballot-proposal : (j : ℕ) → choice ≡ Proposal j → Finds (ballotOf whole v) names counts (At (proposalsPlace + mostBlocks * j) (getD p j 0))
       ballot-proposal j c =
           let few = best-place choice j (w .place) c in
           let blocks = short j few in
-          let own = ap (λ (h : Proposals). getD (h .lengths) j 0) eg in
-          let fit = choice-fits names counts proposalsPlace (proposalsOf b v) a k j (choice-is ∙ ap chosen c) in
+          let own = own-length j c in
+          let fit = choice-fits names counts proposalsPlace filed a k j (choice-is ∙ ap chosen c) in
           record {
             log =
                 ap (λ (n : ℕ). some (logAt names counts (placeOf proposalsPlace j) n)) own
-                ∙ ap some (sym (fits-log names counts proposalsPlace (proposalsOf b v) a k j fit))
+                ∙ ap some (sym (fits-log names counts proposalsPlace filed a k j fit))
                 ∙ ap (λ (x : Choice). some (votedFor x)) (sym c)
                 ∙ voted;
             before = (omega arith, omega arith);

@@ -7,29 +7,31 @@ use mathlib.Core.Option.{some}
 use mathlib.Core.Path.{_≡_, refl, sym, ap, subst, _∙_}
 use mir.Syntax.{w16, w64}
 use mir.Val.{Fits}
+use borrow.Author.Tests.{ltb-false}
 use lib.ListN.{length, getD, length-append}
 use Rattle.message.specs.Limits.{mostBlocks}
 use Rattle.message.specs.Numbers.{AllBelow, put}
 use Rattle.message.specs.Logs.{Block, Log, namesOf, countsOf}
 use Rattle.message.specs.Message.{Content, Meaning, logMessage, proposalMessage, said, logOf, bytesOf}
-use Rattle.message.specs.Store.{logAt, Writes, roomFor, logFrom, writeLogOf, proposalFrom, writeProposalOf}
+use Rattle.message.specs.Store.{logAt, Writes, roomFor, writeLogOf, writeProposalOf}
 use Rattle.message.proofs.PartLaws.{part-below, one-below, append-below}
 use Rattle.message.proofs.LogLaws.{names-append, counts-append, names-one, counts-one}
 use Rattle.message.proofs.ListedLaws.{length-at, names-at, counts-at}
 use Rattle.message.proofs.WrittenFields.{length-message}
 use Rattle.message.proofs.Inside.{room-yes, written-inside, count-made, same-count, same-holds, same-log, content-made, priority-made}
 use Rattle.agreement.proofs.BytesLaws.{same-filed, same-proposal-filed}
-use Rattle.bench.specs.Layout.{logsPlace, proposalsPlace}
+use Rattle.bench.specs.Layout.{logsPlace, proposalsPlace, mostBytes}
 use Rattle.bench.specs.Calls.{acted, State}
-use Rattle.bench.specs.Record.{agreementOf, proposalsOf}
+use Rattle.bench.specs.Record.{agreementOf, proposalsOf, Bench, benchFrom}
 use Rattle.bench.specs.ByRecord.{Outcome, logOutcome, proposalOutcome, fileLog, fileProposal, fileMessage, taken}
-use Rattle.bench.specs.Answers.{stateOf, contentMade, madeReply, ReceiveGives, ActGives}
-use Rattle.calls.specs.Steps.{Making, madeStep}
-use Rattle.bench.specs.declared.Bench.{Bench}
+use Rattle.bench.specs.Answers.{lentAs, heldWith, contentMade, madeReply, ReceiveGives, ActGives}
+use Rattle.calls.specs.Steps.{LogFiled, ProposalFiled, Making, madeStep, LogMade, ProposalMade}
+use Rattle.bench.specs.declared.Head.{Head}
+use Rattle.bench.specs.declared.Taken.{Taken}
 use Rattle.bench.specs.declared.Made.{Made}
-use Rattle.bench.specs.declared.Received.{Received}
+use Rattle.bench.specs.declared.ReceivedHead.{ReceivedHead}
 use Rattle.bench.specs.declared.Made.the-variants as makings
-use Rattle.bench.proofs.TestedLaws.{before-within, long-out}
+use Rattle.bench.proofs.TestedLaws.{before-within}
 
 -- it can be written, and the buffer has room for it
 record Makeable (out : List ℕ) (m : Meaning) : Type 0 where
@@ -41,18 +43,19 @@ record Makeable (out : List ℕ) (m : Meaning) : Type 0 where
 
 -- ---- what making one asks is enough for it
 
-module _ {s : State} {out : List ℕ} {v a k : ℕ} (p : Making s out v a k) where
+module _ {names counts out : List ℕ} {v a k : ℕ} (p : Making names counts out v a k) where
+  long : mostBytes ≤ length out
+  long = ltb-false (length out) mostBytes (p .room)
+
   -- a log of n blocks has room
-  made-room : (n : ℕ) → n ≤ mostBlocks → roomFor out (s .lent .names) (s .lent .counts) a k n ≡ true
-  made-room n h =
-      let o = long-out (p .tested) in
-      room-yes out (s .lent .names) (s .lent .counts) a k n h (before-within (s .lent) (p .tested .usable .lists) a k (p .before)) (omega arith)
+  made-room : (n : ℕ) → n ≤ mostBlocks → roomFor out names counts a k n ≡ true
+  made-room n h = let o = long in room-yes out names counts a k n h (before-within (lentAs names counts) (p .lists) a k (p .before)) (omega arith)
 
   makeable : (m : Meaning) → length (logOf m) ≤ mostBlocks → said m .view ≡ v
       → AllBelow (2 ^ 64) (namesOf (logOf m)) → AllBelow (2 ^ 16) (countsOf (logOf m)) → Makeable out m
   makeable m h e n c =
       let l = length-message m in
-      let o = long-out (p .tested) in
+      let o = long in
       let x = p .early in
       record { few = h; room = omega arith; view = omega arith; names = n; counts = c }
 
@@ -100,23 +103,23 @@ proposal-reply out m priority k w h e =
 
 -- ---- written, filed from the buffer and answered
 
-module _ (s : State) (out : List ℕ) (m : Meaning) (w : Makeable out m) (a : Made) (o : List ℕ) (f : Received) (ns cs : List ℕ) where
-  made-acts : o ≡ put out 0 (bytesOf m) → madeReply (put out 0 (bytesOf m)) a ≡ acted (some m) → ReceiveGives (taken (fileMessage s o m)) f ns cs
-      → ActGives (madeStep s out m) (record { answer = a; bench = f .bench }) ns cs o
+module _ (s : State) (out : List ℕ) (m : Meaning) (w : Makeable out m) (a : Made) (o : List ℕ) (y : Taken) (c : Bench) (ns cs : List ℕ) where
+  made-acts : o ≡ put out 0 (bytesOf m) → madeReply (put out 0 (bytesOf m)) a ≡ acted (some m) → ReceiveGives (taken (fileMessage s o m)) y c ns cs
+      → ActGives (madeStep s out m) a c ns cs o
   made-acts e q r =
       let x : fileMessage s o m ≡ fileMessage s (bytesOf m) m = ap (λ (l : List ℕ). fileMessage s l m) e ∙ filed-same out m w s in
       record {
         answered = ap (λ (l : List ℕ). madeReply l a) e ∙ q;
-        bench = r .bench ∙ ap (λ (y : Outcome). y .held .bench) x;
-        nameList = r .nameList ∙ ap (λ (y : Outcome). y .held .lent .names) x;
-        countList = r .countList ∙ ap (λ (y : Outcome). y .held .lent .counts) x;
+        bench = r .bench ∙ ap (λ (z : Outcome). z .held .bench) x;
+        nameList = r .nameList ∙ ap (λ (z : Outcome). z .held .lent .names) x;
+        countList = r .countList ∙ ap (λ (z : Outcome). z .held .lent .counts) x;
         buffer = e;
       }
 
 -- ---- the LOG and the PROPOSAL of the blocks at a place
 
-module _ (b : Bench) (names counts out : List ℕ) (v a k : ℕ) (hn : (i : ℕ) → Fits w64 (getD names i 0)) (hc : (i : ℕ) → Fits w16 (getD counts i 0))
-    (r : Bool) (o : List ℕ) (ns cs : List ℕ) where
+module _ (h : Head) (names counts out : List ℕ) (v a k : ℕ) (hn : (i : ℕ) → Fits w64 (getD names i 0)) (hc : (i : ℕ) → Fits w16 (getD counts i 0))
+    (r : Bool) (o : List ℕ) (f : ReceivedHead) (ns cs : List ℕ) where
   abbrev L : Log
   L = logAt names counts a k
 
@@ -126,36 +129,39 @@ module _ (b : Bench) (names counts out : List ℕ) (v a k : ℕ) (hn : (i : ℕ)
   counts-fit : AllBelow (2 ^ 16) (countsOf L)
   counts-fit = subst (AllBelow (2 ^ 16)) (sym (counts-at names counts a k)) (part-below (2 ^ 16) counts a k (λ i. hc i .fits))
 
-  pub log-acts : Making (stateOf b names counts) out v a k → Writes (writeLogOf out names counts a k (b .own) v) r o
-      → (f : Received) → ReceiveGives (taken (fileLog (stateOf b names counts) o v (b .own))) f ns cs
-      → ActGives (madeStep (stateOf b names counts) out (logFrom names counts a k (b .own) v)) (record { answer = makings.Log k; bench = f .bench }) ns cs o
-  unfolding fileMessage
-  log-acts p x f y =
-      let m : Content = record { sender = b .own; view = v; log = L } in
-      let l = length-at names counts a k in
-      let few = p .before .1 in
-      let w = makeable p (logMessage m) (omega arith) refl names-fit counts-fit in
-      let e = written-inside (roomFor out names counts a k k) out (logMessage m) r o (made-room p k few) x .1 in
-      made-acts (stateOf b names counts) out (logMessage m) w (makings.Log k) o f ns cs e (log-reply out m k w l) y
+  module _ (e d e′ d′ : List ℕ) where
+    pub log-acts : Making names counts out v a k → Writes (writeLogOf out names counts a k (h .own) v) r o → LogFiled h e d names counts o v (h .own) f e′ d′ ns cs
+        → LogMade h e d names counts out v a k (record { answer = makings.Log k; head = f .head }) e′ d′ ns cs o
+    unfolding fileMessage
+    log-acts p x y =
+        let m : Content = record { sender = h .own; view = v; log = L } in
+        let l = length-at names counts a k in
+        let few = p .before .1 in
+        let w = makeable p (logMessage m) (omega arith) refl names-fit counts-fit in
+        let z = written-inside (roomFor out names counts a k k) out (logMessage m) r o (made-room p k few) x .1 in
+        record { whole = λ q s. made-acts (heldWith (benchFrom h e d q s) names counts) out (logMessage m) w (makings.Log k) o (f .answer) (benchFrom (f .head) e′ d′ q s) ns cs z (log-reply out m k w l) (y .whole q s) }
 
-  pub proposal-acts : (name count priority : ℕ) → Fits w64 name → Fits w16 count → Fits w64 priority
-      → (Making (stateOf b names counts) out v a k) × (k < mostBlocks)
-      → Writes (writeProposalOf out names counts a k (record { name = name; count = count }) (b .own) v priority) r o
-      → (f : Received) → ReceiveGives (taken (fileProposal (stateOf b names counts) o v (b .own) priority)) f ns cs
-      → ActGives (madeStep (stateOf b names counts) out (proposalFrom names counts a k (record { name = name; count = count }) (b .own) v priority))
-      (record { answer = makings.Proposal (k + 1); bench = f .bench }) ns cs o
-  unfolding fileMessage
-  proposal-acts name count priority tn tc tp (p, h) x f y =
-      let block : Block = record { name = name; count = count } in
-      let m : Content = record { sender = b .own; view = v; log = L ++ (block ∷ []) } in
-      let l : length (L ++ (block ∷ [])) ≡ k + 1 = length-append L (block ∷ []) ∙ ap (λ (j : ℕ). j + 1) (length-at names counts a k) in
-      let w = makeable p (proposalMessage m priority) (omega arith) refl
-      (subst (AllBelow (2 ^ 64)) (sym (names-append L (block ∷ [])))
-      (append-below (2 ^ 64) (namesOf L) (namesOf (block ∷ [])) names-fit
-      (subst (AllBelow (2 ^ 64)) (sym (names-one block)) (one-below (2 ^ 64) name (tn .fits)))))
-      (subst (AllBelow (2 ^ 16)) (sym (counts-append L (block ∷ [])))
-      (append-below (2 ^ 16) (countsOf L) (countsOf (block ∷ [])) counts-fit
-      (subst (AllBelow (2 ^ 16)) (sym (counts-one block)) (one-below (2 ^ 16) count (tc .fits))))) in
-      let e = written-inside (roomFor out names counts a k (k + 1)) out (proposalMessage m priority) r o (made-room p (k + 1) (omega arith)) x .1 in
-      made-acts (stateOf b names counts) out (proposalMessage m priority) w (makings.Proposal (k + 1)) o f ns cs e
-      (proposal-reply out m priority (k + 1) w (tp .fits) l) y
+  module _ (q s q′ s′ : List ℕ) where
+    pub proposal-acts : (name count priority : ℕ) → Fits w64 name → Fits w16 count → Fits w64 priority
+        → (Making names counts out v a k) × (k < mostBlocks)
+        → Writes (writeProposalOf out names counts a k (record { name = name; count = count }) (h .own) v priority) r o
+        → ProposalFiled h q s names counts o v (h .own) priority f q′ s′ ns cs
+        → ProposalMade h q s names counts out v a k (record { name = name; count = count }) priority (record { answer = makings.Proposal (k + 1); head = f .head }) q′ s′ ns cs o
+    unfolding fileMessage
+    proposal-acts name count priority tn tc tp (p, few) x y =
+        let block : Block = record { name = name; count = count } in
+        let m : Content = record { sender = h .own; view = v; log = L ++ (block ∷ []) } in
+        let l : length (L ++ (block ∷ [])) ≡ k + 1 = length-append L (block ∷ []) ∙ ap (λ (j : ℕ). j + 1) (length-at names counts a k) in
+        let w = makeable p (proposalMessage m priority) (omega arith) refl
+        (subst (AllBelow (2 ^ 64)) (sym (names-append L (block ∷ [])))
+        (append-below (2 ^ 64) (namesOf L) (namesOf (block ∷ [])) names-fit
+        (subst (AllBelow (2 ^ 64)) (sym (names-one block)) (one-below (2 ^ 64) name (tn .fits)))))
+        (subst (AllBelow (2 ^ 16)) (sym (counts-append L (block ∷ [])))
+        (append-below (2 ^ 16) (countsOf L) (countsOf (block ∷ [])) counts-fit
+        (subst (AllBelow (2 ^ 16)) (sym (counts-one block)) (one-below (2 ^ 16) count (tc .fits))))) in
+        let z = written-inside (roomFor out names counts a k (k + 1)) out (proposalMessage m priority) r o (made-room p (k + 1) (omega arith)) x .1 in
+        record {
+          whole = λ e d.
+              made-acts (heldWith (benchFrom h e d q s) names counts) out (proposalMessage m priority) w (makings.Proposal (k + 1)) o (f .answer) (benchFrom (f .head) e d q′ s′) ns cs z
+              (proposal-reply out m priority (k + 1) w (tp .fits) l) (y .whole e d);
+        }

@@ -1,38 +1,81 @@
 -- What the inner functions ask and promise: steps on the way to the definitions of bench's ByRecord, which they do not add to. Assumes nothing.
 use Prim.Native.Nat.{ℕ, _≤_}
-use mathlib.Core.Bool.{Bool, not, _&&_, _||_}
-use mathlib.Core.List.{List}
+use mathlib.Core.Bool.{Bool, false, not, _&&_, _||_}
+use lib.Dec.{ltb}
+use lib.ListN.{length}
+use Rattle.message.specs.Limits.{mostBlocks, lastView}
+use Rattle.message.specs.Choice.{pick}
+use Rattle.agreement.specs.Limits.{mostSenders}
+use Rattle.agreement.specs.Record.{Agreement, isSender, one, two}
+use Rattle.agreement.specs.Grades.{snapshotFor, logOf}
+use Rattle.agreement.specs.Tally.{supportersOf}
+use Rattle.agreement.specs.declared.Grade.{Grade}
+use Rattle.message.specs.Message.{Meaning, logMessage, proposalMessage, means, contentOf}
+use Rattle.message.specs.declared.Head as message
+use Rattle.agreement.specs.Sets.{count, member}
+use Rattle.agreement.specs.declared.Marks.{Marks}
+use mathlib.Core.List.{List, []}
 use mathlib.Core.Option.{Option, some, none}
 use mathlib.Core.Path.{_≡_}
-use lib.Dec.{ltb}
-use Rattle.message.specs.Limits.{mostBlocks, lastView}
 use Rattle.message.specs.Logs.{Block, Log}
-use Rattle.message.specs.Message.{Meaning}
-use Rattle.message.specs.Store.{logAt}
+use Rattle.message.specs.Store.{logAt, logFrom, proposalFrom}
+use Rattle.bench.specs.Record.{Bench, benchFrom, anyPlace, namesBeyond}
+use Rattle.bench.specs.Calendar.{voting, deciding}
+use Rattle.bench.specs.Layout.{shortLists, mostBytes}
 use Rattle.bench.specs.Calls.{acted, State, Step}
 use Rattle.bench.specs.Acts.{outAfter}
-use Rattle.bench.specs.ByRecord.{lockOf, seenOf, withMade}
-use Rattle.bench.specs.Answers.{stateOf}
-use Rattle.bench.specs.Tested.{Tested, Before}
-use Rattle.bench.specs.declared.Bench.{Bench}
+use Rattle.bench.specs.Tested.{Before}
+use Rattle.bench.specs.ByRecord.{fileLog, fileProposal, taken, receives, usedOf, seenOf, withMade, settled, snappedBy}
+use Rattle.bench.specs.Answers.{lentAs, heldWith, ReceiveGives, ActGives}
+use Rattle.bench.specs.declared.Head.{Head}
+use Rattle.bench.specs.declared.ReceivedHead.{ReceivedHead}
+use Rattle.bench.specs.Readings.{orEmpty}
+use Rattle.bench.specs.declared.ActedHead.{ActedHead}
+use Rattle.bench.specs.declared.Counted.{Counted}
 use Rattle.calls.specs.declared.seeing.Found.{Found}
 use Rattle.calls.specs.declared.seeing.Found.the-variants.{At, Nowhere}
 
--- ---- 9 (Record: badSender, badProposer): one place of the arrays, by what stands there; `above` where its number is n or above
+-- what the head alone says: no array matters to it
+abbrev pub bare : Head → Bench
+bare h = benchFrom h [] [] [] []
 
-abbrev pub badAt : ℕ → Bool → Bool → Bool → Bool → Bool → Bool
-badAt blocks above v e one two =
-    ltb mostBlocks blocks
-    || ((above && v)
-    || ((above && e)
-    || ((above && one)
-    || ((above && two)
-    || ((v && e)
-    || ((one && not (v || e))
-    || (two && not (v || e))))))))
+-- ---- 9 (Record: badSender): the causes that lie in the sets of an agreement
 
-abbrev pub badProposalAt : ℕ → Bool → Bool → Bool → Bool
-badProposalAt blocks above filed aside = ltb mostBlocks blocks || ((above && filed) || (above && aside))
+abbrev pub outside : Marks → ℕ → ℕ → Bool
+outside m snapshot i = member snapshot i && not (member (m .voters) i || member (m .equivocators) i)
+
+unfoldable pub badSets : ℕ → Marks → Bool
+badSets n m =
+    anyPlace (namesBeyond n (m .voters))
+    || (anyPlace (namesBeyond n (m .equivocators))
+    || (anyPlace (namesBeyond n (m .one .senders))
+    || (anyPlace (namesBeyond n (m .two .senders))
+    || (anyPlace (λ (i : ℕ). member (m .voters) i && member (m .equivocators) i)
+    || (anyPlace (outside m (m .one .senders)) || anyPlace (outside m (m .two .senders)))))))
+
+-- ---- a message filed, or taken: whatever the arrays that it does not concern
+
+pub record LogFiled (h : Head) (even odd names counts bytes : List ℕ) (v i : ℕ) (r : ReceivedHead) (even′ odd′ names′ counts′ : List ℕ) : Type 0 where
+  pub whole : (proposed priorities : List ℕ)
+      → ReceiveGives (taken (fileLog (heldWith (benchFrom h even odd proposed priorities) names counts) bytes v i))
+      (r .answer) (benchFrom (r .head) even′ odd′ proposed priorities) names′ counts′
+
+pub record ProposalFiled (h : Head) (proposed priorities names counts bytes : List ℕ) (v i priority : ℕ) (r : ReceivedHead)
+    (proposed′ priorities′ names′ counts′ : List ℕ) : Type 0 where
+  pub whole : (even odd : List ℕ)
+      → ReceiveGives (taken (fileProposal (heldWith (benchFrom h even odd proposed priorities) names counts) bytes v i priority))
+      (r .answer) (benchFrom (r .head) even odd proposed′ priorities′) names′ counts′
+
+pub record LogTaken (h : Head) (even odd names counts bytes : List ℕ) (head : message.Head) (r : ReceivedHead) (even′ odd′ names′ counts′ : List ℕ) : Type 0 where
+  pub whole : (proposed priorities : List ℕ)
+      → ReceiveGives (receives (heldWith (benchFrom h even odd proposed priorities) names counts) bytes (means (logMessage (contentOf bytes head))))
+      (r .answer) (benchFrom (r .head) even′ odd′ proposed priorities) names′ counts′
+
+pub record ProposalTaken (h : Head) (proposed priorities names counts bytes : List ℕ) (head : message.Head) (priority : ℕ) (r : ReceivedHead)
+    (proposed′ priorities′ names′ counts′ : List ℕ) : Type 0 where
+  pub whole : (even odd : List ℕ)
+      → ReceiveGives (receives (heldWith (benchFrom h even odd proposed priorities) names counts) bytes (means (proposalMessage (contentOf bytes head) priority)))
+      (r .answer) (benchFrom (r .head) even odd proposed′ priorities′) names′ counts′
 
 -- ---- a log in the lists
 
@@ -55,7 +98,7 @@ ballot choose none = none
 ballot choose (some lock) = some (choose lock)
 
 abbrev pub ballotOf : State → ℕ → Option Log
-ballotOf s v = ballot (seenOf s v .choose) (lockOf s v)
+ballotOf s v = ballot (seenOf s v voting .choose) (usedOf s v voting)
 
 -- ---- a message made: filed as one's own, and at the front of the buffer
 
@@ -67,10 +110,22 @@ abbrev pub noBlock : Block
 noBlock = record { name = 0; count = 0 }
 
 -- what making one of the blocks at place a asks
-pub record Making (s : State) (out : List ℕ) (v a k : ℕ) : Type 0 where
-  pub tested : Tested s out
+pub record Making (names counts out : List ℕ) (v a k : ℕ) : Type 0 where
+  pub lists : shortLists (lentAs names counts) ≡ false
+  pub room : ltb (length out) mostBytes ≡ false
   pub early : v ≤ lastView
   pub before : Before a k
+
+pub record LogMade (h : Head) (even odd names counts out : List ℕ) (v a k : ℕ) (r : ActedHead) (even′ odd′ names′ counts′ out′ : List ℕ) : Type 0 where
+  pub whole : (proposed priorities : List ℕ)
+      → ActGives (madeStep (heldWith (benchFrom h even odd proposed priorities) names counts) out (logFrom names counts a k (h .own) v))
+      (r .answer) (benchFrom (r .head) even′ odd′ proposed priorities) names′ counts′ out′
+
+pub record ProposalMade (h : Head) (proposed priorities names counts out : List ℕ) (v a k : ℕ) (block : Block) (priority : ℕ) (r : ActedHead)
+    (proposed′ priorities′ names′ counts′ out′ : List ℕ) : Type 0 where
+  pub whole : (even odd : List ℕ)
+      → ActGives (madeStep (heldWith (benchFrom h even odd proposed priorities) names counts) out (proposalFrom names counts a k block (h .own) v priority))
+      (r .answer) (benchFrom (r .head) even odd proposed′ priorities′) names′ counts′ out′
 
 -- ---- record and lists were left so
 
@@ -79,6 +134,36 @@ pub record Leaves (t : State) (b : Bench) (names counts : List ℕ) : Type 0 whe
   pub nameList : names ≡ t .lent .names
   pub countList : counts ≡ t .lent .counts
 
--- a change of the record alone, whatever the lists
-pub record Snaps (snap : State → State) (b r : Bench) : Type 0 where
-  pub whole : (names counts : List ℕ) → stateOf r names counts ≡ snap (stateOf b names counts)
+-- what deciding asks: the lists are long enough, and the decided length within its limit
+pub record Decidable (h : Head) (names counts : List ℕ) : Type 0 where
+  pub lists : shortLists (lentAs names counts) ≡ false
+  pub short : h .decided ≤ mostBlocks
+
+pub record Settling (h : Head) (names counts : List ℕ) (a k : ℕ) : Type 0 where
+  pub decidable : Decidable h names counts
+  pub before : Before a k
+
+-- a decision, whatever the arrays
+pub record Settles (h : Head) (names counts : List ℕ) (o : Option Log) (r : Head) (names′ counts′ : List ℕ) : Type 0 where
+  pub whole : (even odd proposed priorities : List ℕ)
+      → Leaves (settled (heldWith (benchFrom h even odd proposed priorities) names counts) o) (benchFrom r even odd proposed priorities) names′ counts′
+
+pub record Decides (h : Head) (even odd names counts : List ℕ) (v : ℕ) (r : Head) (names′ counts′ : List ℕ) : Type 0 where
+  pub whole : (proposed priorities : List ℕ)
+      → Leaves (settled (heldWith (benchFrom h even odd proposed priorities) names counts) (usedOf (heldWith (benchFrom h even odd proposed priorities) names counts) v deciding))
+      (benchFrom r even odd proposed priorities) names′ counts′
+
+-- a snapshot, whatever the proposals and the lists
+pub record Snaps (h : Head) (even odd : List ℕ) (v : ℕ) (second : Bool) (r : Head) (even′ odd′ : List ℕ) : Type 0 where
+  pub whole : (proposed priorities names counts : List ℕ)
+      → heldWith (benchFrom r even′ odd′ proposed priorities) names counts
+      ≡ snappedBy (pick second two one) v (heldWith (benchFrom h even odd proposed priorities) names counts)
+
+-- ---- the counts beside a grade of one agreement
+
+pub record CountsIn (names counts : List ℕ) (base : ℕ) (g : Agreement) (k : ℕ) (grade : Grade) (r : Counted) : Type 0 where
+  pub same : r .grade ≡ grade
+  pub supporters : r .supporters ≡ supportersOf names counts base g (snapshotFor k (g .marks) .senders) (orEmpty (logOf names counts base grade))
+  pub fewSupporters : r .supporters ≤ mostSenders
+  pub senders : r .senders ≡ count mostSenders (isSender g)
+  pub fewSenders : r .senders ≤ mostSenders

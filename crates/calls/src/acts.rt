@@ -1,51 +1,71 @@
-// The acts by the calendar (specs/Calendar.antt).
+// The acts by the calendar (specs/Calendar.antt of crate bench).
 ghost use Rattle.bench.specs.Calendar.{viewOf, placeIn, actAt};
-ghost use Rattle.bench.specs.Record.{beatOf};
+ghost use Rattle.bench.specs.Record.{benchFrom, beatOf};
 ghost use Rattle.bench.specs.ByRecord.{over, actedOf};
-ghost use Rattle.bench.specs.Answers.{stateOf, ActGives};
+ghost use Rattle.bench.specs.Answers.{heldWith, ActGives};
 ghost use Rattle.bench.specs.Tested.{Tested};
-use super::deciding::decide_and_snap;
-use super::deciding::snap_two;
+ghost use Rattle.calls.specs.Steps.{bare};
+use super::deciding::decide;
+use super::deciding::snap_view;
 use super::making::propose;
 use super::making::vote;
 use super::record::beat_of;
-use bench::Acted;
-use bench::Bench;
+use bench::ActedHead;
+use bench::Head;
 use bench::Made;
 
 // The gathering is over, and the act of its beat is done.
 pub(crate) fn act_at(
-    bench: Bench,
+    h: Head,
+    even: &mut [u8; 32],
+    odd: &mut [u8; 32],
+    proposed: &mut [u8; 32],
+    priorities: &mut [u64; 32],
     names: &mut [u64],
     counts: &mut [u16],
     out: &mut [u8],
     name: u64,
     count: u16,
     priority: u64,
-) -> Acted
-    requires { ⌜ Tested (stateOf bench (now names) (now counts)) (now out) ⌝ }
-    ensures { λ r. ⌜ ActGives (actedOf (over (stateOf bench (now (names .entry)) (now (counts .entry)))) (record { name = name; count = count }) priority (now (out .entry))
-        (viewOf (beatOf bench)) (actAt (placeIn (beatOf bench)))) r (now (names .exit)) (now (counts .exit)) (now (out .exit)) ⌝ }
+) -> ActedHead
+    requires { ⌜ Tested (heldWith (benchFrom h (now even) (now odd) (now proposed) (now priorities)) (now names) (now counts)) (now out) ⌝ }
+    ensures { λ r. ⌜ ActGives (actedOf (over (heldWith (benchFrom h (now (even .entry)) (now (odd .entry)) (now (proposed .entry)) (now (priorities .entry))) (now (names .entry)) (now (counts .entry))))
+        (record { name = name; count = count }) priority (now (out .entry)) (viewOf (beatOf (bare h))) (actAt (placeIn (beatOf (bare h))))) (r .answer)
+        (benchFrom (r .head) (now (even .exit)) (now (odd .exit)) (now (proposed .exit)) (now (priorities .exit))) (now (names .exit)) (now (counts .exit)) (now (out .exit)) ⌝ }
 {
-    let beat = beat_of(bench);
+    let beat = beat_of(h);
     let v = beat / 4;
     let place = beat % 4;
-    let mut b = bench;
-    b.gathering = false;
+    let mut b = h;
+    b.gathering = 0;
     if place == 0 {
-        return propose(b, names, counts, out, v, name, count, priority);
+        return propose(
+            b,
+            even,
+            odd,
+            proposed,
+            priorities,
+            names,
+            counts,
+            out,
+            v,
+            name,
+            count,
+            priority,
+        );
     }
     if place == 1 {
-        return vote(b, names, counts, out, v);
+        return vote(b, even, odd, proposed, priorities, names, counts, out, v);
     }
     if place == 2 {
-        return Acted {
+        let c = decide(b, even, odd, names, counts, v);
+        return ActedHead {
             answer: Made::Nothing,
-            bench: decide_and_snap(b, names, counts, v),
+            head: snap_view(c, even, odd, v, false),
         };
     }
-    Acted {
+    ActedHead {
         answer: Made::Nothing,
-        bench: snap_two(b, v),
+        head: snap_view(b, even, odd, v, true),
     }
 }

@@ -1,99 +1,78 @@
 // Deciding, and the snapshots.
 ghost use mathlib.Core.Option.{some};
 ghost use Rattle.message.specs.Store.{logAt};
-ghost use Rattle.bench.specs.Calendar.{deciding};
-ghost use Rattle.bench.specs.ByRecord.{decisionOf, settled, snappedOne, snappedTwo, changed};
-ghost use Rattle.bench.specs.Answers.{stateOf};
-ghost use Rattle.bench.specs.Tested.{Usable, Before};
-ghost use Rattle.calls.specs.Steps.{Leaves, Snaps};
+ghost use Rattle.calls.specs.Steps.{Settling, Decidable, Settles, Decides, Snaps};
 use super::record::is_even;
 use super::record::of_view;
-use super::seeing::decision;
 use super::seeing::place_before;
+use super::seeing::used;
 use agreement::Grade;
-use bench::Bench;
+use agreement::snap;
 use bench::DECIDED_PLACE;
+use bench::Head;
 use message::LAST_VIEW;
 use message::store::copy;
 use message::store::is_prefix;
 
 // The log of the blocks at place `at` is decided: it extends the decided log, is a prefix of it, or the mark is set.
-fn settle(b: Bench, names: &mut [u64], counts: &mut [u16], at: usize, blocks: u8) -> Bench
-    requires { ⌜ (Usable (stateOf b (now names) (now counts))) × Before at blocks ⌝ }
-    ensures { λ r. ⌜ Leaves (settled (stateOf b (now (names .entry)) (now (counts .entry))) (some (logAt (now (names .entry)) (now (counts .entry)) at blocks))) r (now (names .exit)) (now (counts .exit)) ⌝ }
+fn settle(h: Head, names: &mut [u64], counts: &mut [u16], at: usize, blocks: u8) -> Head
+    requires { ⌜ Settling h (now names) (now counts) at blocks ⌝ }
+    ensures { λ r. ⌜ Settles h (now (names .entry)) (now (counts .entry)) (some (logAt (now (names .entry)) (now (counts .entry)) at blocks)) r (now (names .exit)) (now (counts .exit)) ⌝ }
 {
-    let old = b.decided as usize;
+    let old = h.decided as usize;
     let new = blocks as usize;
-    let mut c = b;
+    let mut c = h;
     if is_prefix(names, counts, DECIDED_PLACE, old, at, new) {
         copy(names, counts, at, DECIDED_PLACE, new);
-        c.decided = blocks;
+        c.decided = blocks as u16;
         return c;
     }
     if is_prefix(names, counts, at, new, DECIDED_PLACE, old) {
-        return b;
+        return h;
     }
-    c.parted = true;
+    c.parted = 1;
     c
 }
 
 // The longest log with grade 2 of the view before v, where there is one, is decided.
-fn decide(b: Bench, names: &mut [u64], counts: &mut [u16], v: u32) -> Bench
-    requires { ⌜ Usable (stateOf b (now names) (now counts)) ⌝ }
-    ensures { λ r. ⌜ Leaves (settled (stateOf b (now (names .entry)) (now (counts .entry))) (decisionOf (stateOf b (now (names .entry)) (now (counts .entry))) v)) r (now (names .exit)) (now (counts .exit)) ⌝ }
+pub(crate) fn decide(
+    h: Head,
+    even: &[u8; 32],
+    odd: &[u8; 32],
+    names: &mut [u64],
+    counts: &mut [u16],
+    v: u32,
+) -> Head
+    requires { ⌜ Decidable h (now names) (now counts) ⌝ }
+    ensures { λ r. ⌜ Decides h (now (even .entry)) (now (odd .entry)) (now (names .entry)) (now (counts .entry)) v r (now (names .exit)) (now (counts .exit)) ⌝ }
 {
-    let Grade::Longest(i, blocks) = decision(b, names, counts, v) else {
-        return b;
+    let Grade::Longest(i, blocks) = used(h, even, odd, names, counts, v, 2) else {
+        return h;
     };
     let at = place_before(v, i);
-    settle(b, names, counts, at, blocks)
+    settle(h, names, counts, at, blocks)
 }
 
-// Snapshot one of view v is taken, where there is such a view. As in filing, each slot has its own branch.
-fn snap_one(b: Bench, v: u32) -> Bench
-    ensures { λ r. ⌜ Snaps (snappedOne v) b r ⌝ }
+// A snapshot of view v is taken, the second or the first, where there is such a view.
+pub(crate) fn snap_view(
+    h: Head,
+    even: &mut [u8; 32],
+    odd: &mut [u8; 32],
+    v: u32,
+    second: bool,
+) -> Head
+    ensures { λ r. ⌜ Snaps h (now (even .entry)) (now (odd .entry)) v second r (now (even .exit)) (now (odd .exit)) ⌝ }
 {
     if LAST_VIEW < v {
-        return b;
+        return h;
     }
-    let mut c = b;
+    let mut c = h;
     if is_even(v) {
-        let g = of_view(b.even, v);
-        let h = agreement::snap_one(g);
-        c.even = h;
+        let g = of_view(h.even, even, v);
+        c.even = snap(g, second);
         return c;
     }
-    let g = of_view(b.odd, v);
-    let h = agreement::snap_one(g);
-    c.odd = h;
+    let g = of_view(h.odd, odd, v);
+    c.odd = snap(g, second);
     c
-}
-
-// Snapshot two.
-pub(crate) fn snap_two(b: Bench, v: u32) -> Bench
-    ensures { λ r. ⌜ Snaps (snappedTwo v) b r ⌝ }
-{
-    if LAST_VIEW < v {
-        return b;
-    }
-    let mut c = b;
-    if is_even(v) {
-        let g = of_view(b.even, v);
-        let h = agreement::snap_two(g);
-        c.even = h;
-        return c;
-    }
-    let g = of_view(b.odd, v);
-    let h = agreement::snap_two(g);
-    c.odd = h;
-    c
-}
-
-// The deciding act of view v: it decides first, and then takes its snapshot.
-pub(crate) fn decide_and_snap(b: Bench, names: &mut [u64], counts: &mut [u16], v: u32) -> Bench
-    requires { ⌜ Usable (stateOf b (now names) (now counts)) ⌝ }
-    ensures { λ r. ⌜ Leaves (changed (stateOf b (now (names .entry)) (now (counts .entry))) v deciding) r (now (names .exit)) (now (counts .exit)) ⌝ }
-{
-    let c = decide(b, names, counts, v);
-    snap_one(c, v)
 }

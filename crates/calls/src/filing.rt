@@ -1,23 +1,25 @@
-// Receiving: a message is read, its window looked up, and what it says filed.
+// Receiving: a message is read, its window looked up, and what it says filed. What does not concern the agreements is not handed to
+// the functions on LOGs, nor what does not concern the proposals to those on PROPOSALs.
 ghost use mathlib.Core.Path.{_≡_};
-ghost use Rattle.message.specs.Message.{logMessage, proposalMessage, means, contentOf, readOf};
+ghost use Rattle.message.specs.Message.{readOf};
 ghost use Rattle.agreement.specs.Filing.{wordOf};
 ghost use Rattle.bench.specs.Calls.{took};
-ghost use Rattle.bench.specs.ByRecord.{fileLog, fileProposal, taken, receives};
-ghost use Rattle.bench.specs.Answers.{stateOf, takenReply, ReceiveGives};
+ghost use Rattle.bench.specs.Record.{benchFrom};
+ghost use Rattle.bench.specs.ByRecord.{receives};
+ghost use Rattle.bench.specs.Answers.{heldWith, takenReply, ReceiveGives};
+ghost use Rattle.calls.specs.Steps.{LogFiled, LogTaken, ProposalFiled, ProposalTaken};
 use super::calendar::takes_logs;
 use super::calendar::takes_proposals;
 use super::record::beat_of;
 use super::record::is_even;
 use super::record::logs_place;
 use super::record::of_view;
-use super::record::proposals_of;
+use super::record::shown_of;
 use agreement::Answer;
-use bench::Bench;
+use bench::Head;
 use bench::PROPOSALS_PLACE;
-use bench::Received;
+use bench::ReceivedHead;
 use bench::Taken;
-use message::Head;
 use message::Message;
 
 // The word on a message filed.
@@ -31,109 +33,169 @@ fn word(answer: Answer) -> Taken
     }
 }
 
-// The LOG in the bytes, from this sender, in the agreement of view v. Each slot has its own branch, which copies that slot alone.
+// The LOG in the bytes, from this sender, in the agreement of view v.
 pub(crate) fn file_log(
-    b: Bench,
+    h: Head,
+    even: &mut [u8; 32],
+    odd: &mut [u8; 32],
     names: &mut [u64],
     counts: &mut [u16],
     bytes: &[u8],
     v: u32,
     sender: u8,
-) -> Received
-    ensures { λ r. ⌜ ReceiveGives (taken (fileLog (stateOf b (now (names .entry)) (now (counts .entry))) (now (bytes .entry)) v sender)) r (now (names .exit)) (now (counts .exit)) ⌝ }
+) -> ReceivedHead
+    ensures { λ r. ⌜ LogFiled h (now (even .entry)) (now (odd .entry)) (now (names .entry)) (now (counts .entry)) (now (bytes .entry)) v sender r
+        (now (even .exit)) (now (odd .exit)) (now (names .exit)) (now (counts .exit)) ⌝ }
 {
     let base = logs_place(v);
-    let mut c = b;
+    let mut c = h;
     if is_even(v) {
-        let g = of_view(b.even, v);
-        let f = agreement::filing::file(g, names, counts, base, bytes, sender);
+        let g = of_view(h.even, even, v);
+        let f = agreement::filing::file(g, even, names, counts, base, bytes, sender);
         let answer = f.answer;
-        let filed = f.agreement;
-        c.even = filed;
-        return Received {
+        let marks = f.marks;
+        c.even = marks;
+        return ReceivedHead {
             answer: word(answer),
-            bench: c,
+            head: c,
         };
     }
-    let g = of_view(b.odd, v);
-    let f = agreement::filing::file(g, names, counts, base, bytes, sender);
+    let g = of_view(h.odd, odd, v);
+    let f = agreement::filing::file(g, odd, names, counts, base, bytes, sender);
     let answer = f.answer;
-    let filed = f.agreement;
-    c.odd = filed;
-    Received {
+    let marks = f.marks;
+    c.odd = marks;
+    ReceivedHead {
         answer: word(answer),
-        bench: c,
+        head: c,
     }
 }
 
 // The PROPOSAL in the bytes, from this sender and of this priority, among the proposals of view v.
 pub(crate) fn file_proposal(
-    b: Bench,
+    h: Head,
+    proposed: &mut [u8; 32],
+    priorities: &mut [u64; 32],
     names: &mut [u64],
     counts: &mut [u16],
     bytes: &[u8],
     v: u32,
     sender: u8,
     priority: u64,
-) -> Received
-    ensures { λ r. ⌜ ReceiveGives (taken (fileProposal (stateOf b (now (names .entry)) (now (counts .entry))) (now (bytes .entry)) v sender priority)) r (now (names .exit)) (now (counts .exit)) ⌝ }
+) -> ReceivedHead
+    ensures { λ r. ⌜ ProposalFiled h (now (proposed .entry)) (now (priorities .entry)) (now (names .entry)) (now (counts .entry)) (now (bytes .entry)) v sender priority r
+        (now (proposed .exit)) (now (priorities .exit)) (now (names .exit)) (now (counts .exit)) ⌝ }
 {
-    let g = proposals_of(b, v);
-    let f = agreement::proposing::file(g, names, counts, PROPOSALS_PLACE, bytes, sender, priority);
+    let g = shown_of(h.shown, proposed, priorities, v);
+    let f = agreement::proposing::file(
+        g,
+        proposed,
+        priorities,
+        names,
+        counts,
+        PROPOSALS_PLACE,
+        bytes,
+        sender,
+        priority,
+    );
     let answer = f.answer;
-    let filed = f.proposals;
-    let mut c = b;
-    c.proposals = filed;
-    Received {
+    let marks = f.marks;
+    let mut c = h;
+    c.shown = marks;
+    ReceivedHead {
         answer: word(answer),
-        bench: c,
+        head: c,
     }
 }
 
 // A LOG of this head: filed where its view is open.
-fn take_log(b: Bench, names: &mut [u64], counts: &mut [u16], bytes: &[u8], head: Head) -> Received
-    ensures { λ r. ⌜ ReceiveGives (receives (stateOf b (now (names .entry)) (now (counts .entry))) (now (bytes .entry)) (means (logMessage (contentOf (now (bytes .entry)) head)))) r (now (names .exit)) (now (counts .exit)) ⌝ }
+fn take_log(
+    h: Head,
+    even: &mut [u8; 32],
+    odd: &mut [u8; 32],
+    names: &mut [u64],
+    counts: &mut [u16],
+    bytes: &[u8],
+    head: message::Head,
+) -> ReceivedHead
+    ensures { λ r. ⌜ LogTaken h (now (even .entry)) (now (odd .entry)) (now (names .entry)) (now (counts .entry)) (now (bytes .entry)) head r
+        (now (even .exit)) (now (odd .exit)) (now (names .exit)) (now (counts .exit)) ⌝ }
 {
-    if takes_logs(head.view, beat_of(b)) {
-        return file_log(b, names, counts, bytes, head.view, head.sender);
+    if takes_logs(head.view, beat_of(h)) {
+        return file_log(h, even, odd, names, counts, bytes, head.view, head.sender);
     }
-    Received {
+    ReceivedHead {
         answer: Taken::Refused(21),
-        bench: b,
+        head: h,
     }
 }
 
 // A PROPOSAL of this head and priority: filed where its view is open.
 fn take_proposal(
-    b: Bench,
+    h: Head,
+    proposed: &mut [u8; 32],
+    priorities: &mut [u64; 32],
     names: &mut [u64],
     counts: &mut [u16],
     bytes: &[u8],
-    head: Head,
+    head: message::Head,
     priority: u64,
-) -> Received
-    ensures { λ r. ⌜ ReceiveGives (receives (stateOf b (now (names .entry)) (now (counts .entry))) (now (bytes .entry)) (means (proposalMessage (contentOf (now (bytes .entry)) head) priority))) r (now (names .exit)) (now (counts .exit)) ⌝ }
+) -> ReceivedHead
+    ensures { λ r. ⌜ ProposalTaken h (now (proposed .entry)) (now (priorities .entry)) (now (names .entry)) (now (counts .entry)) (now (bytes .entry)) head priority r
+        (now (proposed .exit)) (now (priorities .exit)) (now (names .exit)) (now (counts .exit)) ⌝ }
 {
-    if takes_proposals(head.view, beat_of(b)) {
-        return file_proposal(b, names, counts, bytes, head.view, head.sender, priority);
+    if takes_proposals(head.view, beat_of(h)) {
+        return file_proposal(
+            h,
+            proposed,
+            priorities,
+            names,
+            counts,
+            bytes,
+            head.view,
+            head.sender,
+            priority,
+        );
     }
-    Received {
+    ReceivedHead {
         answer: Taken::Refused(21),
-        bench: b,
+        head: h,
     }
 }
 
 // A message in a gathering under way. Refused: 1 to 6, 21.
-pub(crate) fn take(b: Bench, names: &mut [u64], counts: &mut [u16], bytes: &[u8]) -> Received
-    ensures { λ r. ⌜ ReceiveGives (receives (stateOf b (now (names .entry)) (now (counts .entry))) (now (bytes .entry)) (readOf (b .n) (now (bytes .entry)))) r (now (names .exit)) (now (counts .exit)) ⌝ }
+pub(crate) fn take(
+    h: Head,
+    even: &mut [u8; 32],
+    odd: &mut [u8; 32],
+    proposed: &mut [u8; 32],
+    priorities: &mut [u64; 32],
+    names: &mut [u64],
+    counts: &mut [u16],
+    bytes: &[u8],
+) -> ReceivedHead
+    ensures { λ r. ⌜ ReceiveGives (receives (heldWith (benchFrom h (now (even .entry)) (now (odd .entry)) (now (proposed .entry)) (now (priorities .entry))) (now (names .entry)) (now (counts .entry)))
+        (now (bytes .entry)) (readOf (h .n) (now (bytes .entry)))) (r .answer)
+        (benchFrom (r .head) (now (even .exit)) (now (odd .exit)) (now (proposed .exit)) (now (priorities .exit))) (now (names .exit)) (now (counts .exit)) ⌝ }
 {
-    let message = message::reader::read(b.n, bytes);
+    let message = message::reader::read(h.n, bytes);
     match message {
-        Message::Refused(number) => Received {
+        Message::Refused(number) => ReceivedHead {
             answer: Taken::Refused(number),
-            bench: b,
+            head: h,
         },
-        Message::Log(head) => take_log(b, names, counts, bytes, head),
-        Message::Proposal(head, priority) => take_proposal(b, names, counts, bytes, head, priority),
+        Message::Log(head) => take_log(h, even, odd, names, counts, bytes, head),
+        Message::Proposal(head, priority) => {
+            take_proposal(
+                h,
+                proposed,
+                priorities,
+                names,
+                counts,
+                bytes,
+                head,
+                priority,
+            )
+        }
     }
 }

@@ -1,14 +1,21 @@
-// Refusals 7, 8 and 9. What a record within its limits is stands in specs/Record.antt; all 32 places of each array are looked at,
-// without a branch.
+// Refusals 7, 8 and 9. What a record within its limits is stands in crate bench (specs/Record.antt); all 32 places of each array are
+// looked at.
 ghost use mathlib.Core.Path.{_≡_};
+ghost use mathlib.Core.List.{[]};
+ghost use Rattle.agreement.specs.Record.{agreementFrom};
+ghost use Rattle.agreement.specs.Proposals.{proposalsFrom};
 ghost use Rattle.bench.specs.Layout.{outOfRange, shortLists};
-ghost use Rattle.bench.specs.Record.{anyPlace, badSender, badProposer, beyondAgreement, beyondProposals, beyond};
+ghost use Rattle.bench.specs.Record.{benchFrom, beyondAgreement, beyondProposals, beyond};
 ghost use Rattle.bench.specs.Answers.{lentAs};
-ghost use Rattle.calls.specs.Steps.{badAt, badProposalAt};
-use agreement::Agreement;
+ghost use Rattle.calls.specs.Steps.{badSets};
 use agreement::MOST_SENDERS;
-use agreement::Proposals;
-use bench::Bench;
+use agreement::Marks;
+use agreement::Shown;
+use agreement::sets::exceeds;
+use agreement::sets::meet;
+use agreement::sets::reaches;
+use agreement::tally::is_over;
+use bench::Head;
 use bench::LAST_BEAT;
 use bench::LEAST_LENT;
 use message::LAST_VIEW;
@@ -28,89 +35,42 @@ pub(crate) fn is_short(names: &[u64], counts: &[u16]) -> bool
     (names.len() < LEAST_LENT) | (counts.len() < LEAST_LENT)
 }
 
-// What stands at one place of an agreement's arrays breaks a limit; `above` where its number is n or above.
-fn is_bad_at(blocks: u8, above: bool, v: bool, e: bool, one: bool, two: bool) -> bool
-    ensures { λ r. ⌜ r ≡ badAt blocks above v e one two ⌝ }
+// A set of an agreement names n or above, a sender is in V and in E, or one of a snapshot is in neither.
+fn are_bad_sets(g: Marks, n: u8) -> bool
+    ensures { λ r. ⌜ r ≡ badSets n g ⌝ }
 {
-    (MOST_BLOCKS < blocks as usize)
-        | ((above & v)
-            | ((above & e)
-                | ((above & one)
-                    | ((above & two) | ((v & e) | ((one & !(v | e)) | (two & !(v | e))))))))
+    let one = g.one.senders;
+    let two = g.two.senders;
+    let s = g.voters | g.equivocators;
+    reaches(g.voters, n)
+        | (reaches(g.equivocators, n)
+            | (reaches(one, n)
+                | (reaches(two, n)
+                    | (meet(g.voters, g.equivocators) | (exceeds(one, s) | exceeds(two, s))))))
 }
 
-fn has_bad_sender(g: Agreement, n: u8) -> bool
-    ensures { λ r. ⌜ r ≡ anyPlace (badSender n g) ⌝ }
+fn is_beyond_agreement(g: Marks, lengths: &[u8; 32], n: u8) -> bool
+    ensures { λ r. ⌜ r ≡ beyondAgreement n (agreementFrom g (now (lengths .entry))) ⌝ }
 {
-    let lengths = g.lengths;
-    let voters = g.voters;
-    let equivocators = g.equivocators;
-    let one = g.one;
-    let two = g.two;
-    let limit = n as usize;
-    let mut bad = false;
-    let mut i = 0;
-    while i < MOST_SENDERS {
-        bad = bad
-            | is_bad_at(
-                lengths[i],
-                limit <= i,
-                voters[i],
-                equivocators[i],
-                one[i],
-                two[i],
-            );
-        i += 1;
-    }
-    bad
+    (LAST_VIEW < g.view) | (is_over(lengths, MOST_BLOCKS) | are_bad_sets(g, n))
 }
 
-fn is_beyond_agreement(g: Agreement, n: u8) -> bool
-    ensures { λ r. ⌜ r ≡ beyondAgreement n g ⌝ }
+fn is_beyond_proposals(g: Shown, lengths: &[u8; 32], n: u8) -> bool
+    ensures { λ r. ⌜ r ≡ beyondProposals n (proposalsFrom g (now (lengths .entry)) []) ⌝ }
 {
-    (LAST_VIEW < g.view) | has_bad_sender(g, n)
+    (LAST_VIEW < g.view)
+        | (is_over(lengths, MOST_BLOCKS) | (reaches(g.filed, n) | reaches(g.aside, n)))
 }
 
-// The same of the proposals' arrays.
-fn is_bad_proposal_at(blocks: u8, above: bool, filed: bool, aside: bool) -> bool
-    ensures { λ r. ⌜ r ≡ badProposalAt blocks above filed aside ⌝ }
+// The record is beyond its limits. Priorities have none.
+pub(crate) fn is_beyond(h: Head, even: &[u8; 32], odd: &[u8; 32], proposed: &[u8; 32]) -> bool
+    ensures { λ r. ⌜ r ≡ beyond (benchFrom h (now (even .entry)) (now (odd .entry)) (now (proposed .entry)) []) ⌝ }
 {
-    (MOST_BLOCKS < blocks as usize) | ((above & filed) | (above & aside))
-}
-
-fn has_bad_proposer(g: Proposals, n: u8) -> bool
-    ensures { λ r. ⌜ r ≡ anyPlace (badProposer n g) ⌝ }
-{
-    let lengths = g.lengths;
-    let filed = g.filed;
-    let aside = g.aside;
-    let limit = n as usize;
-    let mut bad = false;
-    let mut i = 0;
-    while i < MOST_SENDERS {
-        bad = bad | is_bad_proposal_at(lengths[i], limit <= i, filed[i], aside[i]);
-        i += 1;
-    }
-    bad
-}
-
-fn is_beyond_proposals(g: Proposals, n: u8) -> bool
-    ensures { λ r. ⌜ r ≡ beyondProposals n g ⌝ }
-{
-    (LAST_VIEW < g.view) | has_bad_proposer(g, n)
-}
-
-// The record is beyond its limits.
-pub(crate) fn is_beyond(b: Bench) -> bool
-    ensures { λ r. ⌜ r ≡ beyond b ⌝ }
-{
-    let n = b.n;
-    let even = b.even;
-    let odd = b.odd;
-    let proposals = b.proposals;
-    is_out_of_range(n, b.own)
-        | ((LAST_BEAT + 1 < b.next)
-            | ((MOST_BLOCKS < b.decided as usize)
-                | (is_beyond_agreement(even, n)
-                    | (is_beyond_agreement(odd, n) | is_beyond_proposals(proposals, n)))))
+    let n = h.n;
+    is_out_of_range(n, h.own)
+        | ((LAST_BEAT + 1 < h.next)
+            | ((MOST_BLOCKS < h.decided as usize)
+                | (is_beyond_agreement(h.even, even, n)
+                    | (is_beyond_agreement(h.odd, odd, n)
+                        | is_beyond_proposals(h.shown, proposed, n)))))
 }

@@ -3,19 +3,20 @@ ghost use Prim.Native.Nat.{_<_};
 ghost use Rattle.message.specs.Limits.{mostBlocks};
 ghost use Rattle.message.specs.Store.{logFrom, proposalFrom};
 ghost use Rattle.bench.specs.Calendar.{proposing, voting};
+ghost use Rattle.bench.specs.Record.{benchFrom};
 ghost use Rattle.bench.specs.ByRecord.{actedOf};
-ghost use Rattle.bench.specs.Answers.{stateOf, ActGives};
+ghost use Rattle.bench.specs.Answers.{heldWith, ActGives};
 ghost use Rattle.bench.specs.Tested.{Tested};
-ghost use Rattle.calls.specs.Steps.{Making, madeStep, noBlock};
+ghost use Rattle.calls.specs.Steps.{Making, LogMade, ProposalMade, noBlock};
 use super::filing::file_log;
 use super::filing::file_proposal;
 use super::seeing::Found;
 use super::seeing::ballot;
-use super::seeing::candidate;
 use super::seeing::place_before;
+use super::seeing::used;
 use agreement::Grade;
-use bench::Acted;
-use bench::Bench;
+use bench::ActedHead;
+use bench::Head;
 use bench::Made;
 use message::LAST_VIEW;
 use message::MOST_BLOCKS;
@@ -24,31 +25,35 @@ use message::writer::write_proposal;
 
 // The LOG of view v of the blocks at place `at`.
 fn make_log(
-    b: Bench,
+    h: Head,
+    even: &mut [u8; 32],
+    odd: &mut [u8; 32],
     names: &mut [u64],
     counts: &mut [u16],
     out: &mut [u8],
     v: u32,
     at: usize,
     blocks: u8,
-) -> Acted
-    requires { ⌜ Making (stateOf b (now names) (now counts)) (now out) v at blocks ⌝ }
-    ensures { λ r. ⌜ ActGives (madeStep (stateOf b (now (names .entry)) (now (counts .entry))) (now (out .entry))
-        (logFrom (now (names .entry)) (now (counts .entry)) at blocks (b .own) v)) r (now (names .exit)) (now (counts .exit)) (now (out .exit)) ⌝ }
+) -> ActedHead
+    requires { ⌜ Making (now names) (now counts) (now out) v at blocks ⌝ }
+    ensures { λ r. ⌜ LogMade h (now (even .entry)) (now (odd .entry)) (now (names .entry)) (now (counts .entry)) (now (out .entry)) v at blocks r
+        (now (even .exit)) (now (odd .exit)) (now (names .exit)) (now (counts .exit)) (now (out .exit)) ⌝ }
 {
-    let own = b.own;
+    let own = h.own;
     write_log(out, names, counts, at, blocks as usize, own, v);
-    let filed = file_log(b, names, counts, out, v, own);
-    let bench = filed.bench;
-    Acted {
+    let filed = file_log(h, even, odd, names, counts, out, v, own);
+    let head = filed.head;
+    ActedHead {
         answer: Made::Log(blocks),
-        bench,
+        head,
     }
 }
 
 // The PROPOSAL of view v of the blocks at place `at` and the one offered.
 fn make_proposal(
-    b: Bench,
+    h: Head,
+    proposed: &mut [u8; 32],
+    priorities: &mut [u64; 32],
     names: &mut [u64],
     counts: &mut [u16],
     out: &mut [u8],
@@ -58,12 +63,14 @@ fn make_proposal(
     name: u64,
     count: u16,
     priority: u64,
-) -> Acted
-    requires { ⌜ (Making (stateOf b (now names) (now counts)) (now out) v at blocks) × (blocks < mostBlocks) ⌝ }
-    ensures { λ r. ⌜ ActGives (madeStep (stateOf b (now (names .entry)) (now (counts .entry))) (now (out .entry))
-        (proposalFrom (now (names .entry)) (now (counts .entry)) at blocks (record { name = name; count = count }) (b .own) v priority)) r (now (names .exit)) (now (counts .exit)) (now (out .exit)) ⌝ }
+) -> ActedHead
+    requires { ⌜ (Making (now names) (now counts) (now out) v at blocks) × (blocks < mostBlocks) ⌝ }
+    ensures { λ r. ⌜ ProposalMade h (now (proposed .entry)) (now (priorities .entry)) (now (names .entry)) (now (counts .entry)) (now (out .entry)) v at blocks
+        (record { name = name; count = count }) priority r
+        (now (proposed .exit)) (now (priorities .exit)) (now (names .exit)) (now (counts .exit)) (now (out .exit)) ⌝ }
 {
-    let own = b.own;
+    let longer = blocks + 1;
+    let own = h.own;
     write_proposal(
         out,
         names,
@@ -76,17 +83,31 @@ fn make_proposal(
         v,
         priority,
     );
-    let filed = file_proposal(b, names, counts, out, v, own, priority);
-    let bench = filed.bench;
-    Acted {
-        answer: Made::Proposal(blocks + 1),
-        bench,
+    let filed = file_proposal(
+        h,
+        proposed,
+        priorities,
+        names,
+        counts,
+        out,
+        v,
+        own,
+        priority,
+    );
+    let head = filed.head;
+    ActedHead {
+        answer: Made::Proposal(longer),
+        head,
     }
 }
 
 // The proposing act of view v: of the candidate and the offered block, where there are both and room.
 pub(crate) fn propose(
-    b: Bench,
+    h: Head,
+    even: &[u8; 32],
+    odd: &[u8; 32],
+    proposed: &mut [u8; 32],
+    priorities: &mut [u64; 32],
     names: &mut [u64],
     counts: &mut [u16],
     out: &mut [u8],
@@ -94,41 +115,68 @@ pub(crate) fn propose(
     name: u64,
     count: u16,
     priority: u64,
-) -> Acted
-    requires { ⌜ Tested (stateOf b (now names) (now counts)) (now out) ⌝ }
-    ensures { λ r. ⌜ ActGives (actedOf (stateOf b (now (names .entry)) (now (counts .entry))) (record { name = name; count = count }) priority (now (out .entry)) v proposing) r (now (names .exit)) (now (counts .exit)) (now (out .exit)) ⌝ }
+) -> ActedHead
+    requires { ⌜ Tested (heldWith (benchFrom h (now even) (now odd) (now proposed) (now priorities)) (now names) (now counts)) (now out) ⌝ }
+    ensures { λ r. ⌜ ActGives (actedOf (heldWith (benchFrom h (now (even .entry)) (now (odd .entry)) (now (proposed .entry)) (now (priorities .entry))) (now (names .entry)) (now (counts .entry)))
+        (record { name = name; count = count }) priority (now (out .entry)) v proposing) (r .answer)
+        (benchFrom (r .head) (now (even .exit)) (now (odd .exit)) (now (proposed .exit)) (now (priorities .exit))) (now (names .exit)) (now (counts .exit)) (now (out .exit)) ⌝ }
 {
-    let nothing = Acted {
+    let nothing = ActedHead {
         answer: Made::Nothing,
-        bench: b,
+        head: h,
     };
     if (LAST_VIEW < v) | (name == 0) {
         return nothing;
     }
-    let Grade::Longest(i, blocks) = candidate(b, names, counts, v) else {
+    let Grade::Longest(i, blocks) = used(h, even, odd, names, counts, v, 0) else {
         return nothing;
     };
     if MOST_BLOCKS <= blocks as usize {
         return nothing;
     }
     let at = place_before(v, i);
-    make_proposal(b, names, counts, out, v, at, blocks, name, count, priority)
+    make_proposal(
+        h,
+        proposed,
+        priorities,
+        names,
+        counts,
+        out,
+        v,
+        at,
+        blocks,
+        name,
+        count,
+        priority,
+    )
 }
 
 // The voting act of view v: for the best proposal that has the lock as a prefix, else the lock.
-pub(crate) fn vote(b: Bench, names: &mut [u64], counts: &mut [u16], out: &mut [u8], v: u32) -> Acted
-    requires { ⌜ Tested (stateOf b (now names) (now counts)) (now out) ⌝ }
-    ensures { λ r. ⌜ ActGives (actedOf (stateOf b (now (names .entry)) (now (counts .entry))) noBlock 0 (now (out .entry)) v voting) r (now (names .exit)) (now (counts .exit)) (now (out .exit)) ⌝ }
+pub(crate) fn vote(
+    h: Head,
+    even: &mut [u8; 32],
+    odd: &mut [u8; 32],
+    proposed: &[u8; 32],
+    priorities: &[u64; 32],
+    names: &mut [u64],
+    counts: &mut [u16],
+    out: &mut [u8],
+    v: u32,
+) -> ActedHead
+    requires { ⌜ Tested (heldWith (benchFrom h (now even) (now odd) (now proposed) (now priorities)) (now names) (now counts)) (now out) ⌝ }
+    ensures { λ r. ⌜ ActGives (actedOf (heldWith (benchFrom h (now (even .entry)) (now (odd .entry)) (now (proposed .entry)) (now (priorities .entry))) (now (names .entry)) (now (counts .entry)))
+        noBlock 0 (now (out .entry)) v voting) (r .answer)
+        (benchFrom (r .head) (now (even .exit)) (now (odd .exit)) (now (proposed .exit)) (now (priorities .exit))) (now (names .exit)) (now (counts .exit)) (now (out .exit)) ⌝ }
 {
-    let nothing = Acted {
+    let nothing = ActedHead {
         answer: Made::Nothing,
-        bench: b,
+        head: h,
     };
     if LAST_VIEW < v {
         return nothing;
     }
-    let Found::At(at, blocks) = ballot(b, names, counts, v) else {
+    let Found::At(at, blocks) = ballot(h, even, odd, proposed, priorities, names, counts, v) else {
         return nothing;
     };
-    make_log(b, names, counts, out, v, at, blocks)
+    make_log(h, even, odd, names, counts, out, v, at, blocks)
 }

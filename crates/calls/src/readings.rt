@@ -1,105 +1,101 @@
-// What an act reads of the agreement before (specs/Readings.antt), one part at a time.
+// What an act reads of the agreement before (specs/Readings.antt of crate bench), with its counts.
 ghost use mathlib.Core.Path.{_≡_};
+ghost use mathlib.Core.List.{[]};
 ghost use Prim.Native.Nat.{_-_, _≤_};
 ghost use Rattle.agreement.specs.Limits.{mostSenders};
-ghost use Rattle.agreement.specs.Grades.{Gives, Placed, logOf};
+ghost use Rattle.agreement.specs.Record.{agreementFrom};
+ghost use Rattle.agreement.specs.Grades.{Placed, logOf};
 ghost use Rattle.agreement.specs.Tally.{supportersOf};
-ghost use Rattle.bench.specs.Layout.{logsPlace};
 ghost use Rattle.bench.specs.Calendar.{actAt};
-ghost use Rattle.bench.specs.Answers.{stateOf};
-ghost use Rattle.bench.specs.Readings.{usedBy, readBy, amongBy, orEmpty, ReadingGives};
-use super::record::agreement_of;
+ghost use Rattle.bench.specs.Record.{benchFrom, ofView};
+ghost use Rattle.bench.specs.Answers.{heldWith};
+ghost use Rattle.bench.specs.Readings.{orEmpty, ReadingGives};
+ghost use Rattle.calls.specs.Steps.{CountsIn};
+use super::record::is_even;
 use super::record::logs_place;
-use super::seeing::candidate;
-use super::seeing::decision;
-use super::seeing::lock;
-use agreement::Agreement;
+use super::seeing::used;
 use agreement::Grade;
-use agreement::MOST_SENDERS;
-use bench::Bench;
+use agreement::Marks;
+use agreement::grading::serving;
+use agreement::tally;
 use bench::Counted;
-
-// The log that the act at this place of view v uses.
-fn used(b: Bench, names: &[u64], counts: &[u16], v: u32, place: u32) -> Grade
-    ensures { λ r. ⌜ Gives (usedBy (stateOf b (now (names .entry)) (now (counts .entry))) v (actAt place)) (now (names .entry)) (now (counts .entry)) (logsPlace (v - 1)) r ⌝ }
-{
-    if place == 0 {
-        return candidate(b, names, counts, v);
-    }
-    if place == 1 {
-        return lock(b, names, counts, v);
-    }
-    if place == 2 {
-        return decision(b, names, counts, v);
-    }
-    Grade::Nothing
-}
-
-// The agreement that it reads, empty where it reads none.
-fn agreement_read(b: Bench, v: u32, place: u32) -> Agreement
-    ensures { λ r. ⌜ r ≡ readBy b v (actAt place) ⌝ }
-{
-    if 2 < place {
-        return agreement::empty(0);
-    }
-    if v == 0 {
-        return agreement::empty(0);
-    }
-    agreement_of(b, v - 1)
-}
-
-// The place of the first of that agreement's logs.
-fn logs_before(v: u32) -> u32
-    ensures { λ r. ⌜ r ≡ logsPlace (v - 1) ⌝ }
-{
-    if v == 0 {
-        return 0;
-    }
-    logs_place(v - 1)
-}
-
-// The senders that may support, in the agreement read.
-fn among_of(g: Agreement, place: u32) -> [bool; MOST_SENDERS]
-    ensures { λ r. ⌜ r ≡ amongBy g (actAt place) ⌝ }
-{
-    if place == 1 {
-        return g.two;
-    }
-    if place == 2 {
-        return g.one;
-    }
-    g.voters
-}
+use bench::Head;
 
 // How many support the log of a grade, or the empty log where there is none.
 fn supporters(
-    g: Agreement,
+    g: Marks,
+    lengths: &[u8; 32],
     names: &[u64],
     counts: &[u16],
     base: u32,
-    among: [bool; MOST_SENDERS],
+    among: u32,
     grade: Grade,
 ) -> usize
     requires { ⌜ Placed grade ⌝ }
-    ensures { λ r. ⌜ (r ≡ supportersOf (now (names .entry)) (now (counts .entry)) base g among (orEmpty (logOf (now (names .entry)) (now (counts .entry)) base grade))) × (r ≤ mostSenders) ⌝ }
+    ensures { λ r. ⌜ (r ≡ supportersOf (now (names .entry)) (now (counts .entry)) base (agreementFrom g (now (lengths .entry))) among (orEmpty (logOf (now (names .entry)) (now (counts .entry)) base grade))) × (r ≤ mostSenders) ⌝ }
 {
     let Grade::Longest(i, k) = grade else {
-        return agreement::tally::supporters(g, names, counts, base, among, 0, 0);
+        return tally::supporters(g, lengths, names, counts, base, among, 0, 0);
     };
-    agreement::tally::supporters(g, names, counts, base, among, i, k)
+    tally::supporters(g, lengths, names, counts, base, among, i, k)
+}
+
+// The counts of a grade of a slot, as far as the slot is of view v: else nobody is heard.
+fn counted(
+    g: Marks,
+    lengths: &[u8; 32],
+    names: &[u64],
+    counts: &[u16],
+    base: u32,
+    v: u32,
+    k: u8,
+    grade: Grade,
+) -> Counted
+    requires { ⌜ Placed grade ⌝ }
+    ensures { λ r. ⌜ CountsIn (now (names .entry)) (now (counts .entry)) base (ofView (agreementFrom g (now (lengths .entry))) v) k grade r ⌝ }
+{
+    if g.view == v {
+        let s = serving(g, k);
+        return Counted {
+            grade,
+            supporters: supporters(g, lengths, names, counts, base, s.senders, grade),
+            senders: tally::senders(g),
+        };
+    }
+    Counted {
+        grade,
+        supporters: 0,
+        senders: 0,
+    }
 }
 
 // What the act at this place of view v reads.
-pub(crate) fn read_at(b: Bench, names: &[u64], counts: &[u16], v: u32, place: u32) -> Counted
-    ensures { λ r. ⌜ ReadingGives (stateOf b (now (names .entry)) (now (counts .entry))) v (actAt place) r ⌝ }
+pub(crate) fn read_at(
+    h: Head,
+    even: &[u8; 32],
+    odd: &[u8; 32],
+    names: &[u64],
+    counts: &[u16],
+    v: u32,
+    place: u8,
+) -> Counted
+    ensures { λ r. ⌜ ReadingGives (heldWith (benchFrom h (now (even .entry)) (now (odd .entry)) [] []) (now (names .entry)) (now (counts .entry))) v (actAt place) r ⌝ }
 {
-    let grade = used(b, names, counts, v, place);
-    let g = agreement_read(b, v, place);
-    let base = logs_before(v);
-    let among = among_of(g, place);
-    Counted {
+    let grade = used(h, even, odd, names, counts, v, place);
+    let nobody = Counted {
         grade,
-        supporters: supporters(g, names, counts, base, among, grade),
-        senders: agreement::tally::senders(g),
+        supporters: 0,
+        senders: 0,
+    };
+    if 2 < place {
+        return nobody;
     }
+    if v == 0 {
+        return nobody;
+    }
+    let base = logs_place(v - 1);
+    if is_even(v - 1) {
+        return counted(h.even, even, names, counts, base, v - 1, place, grade);
+    }
+    counted(h.odd, odd, names, counts, base, v - 1, place, grade)
 }

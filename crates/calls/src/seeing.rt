@@ -1,21 +1,26 @@
-// What an act sees of the agreement before, by the grade's answer, and the log it votes for. Each slot has its own branch, which
-// copies that slot alone.
+// What an act sees: the log that it uses, by the grade of the agreement before that it reads, and the log it votes for.
 ghost use mathlib.Core.Path.{_≡_};
-ghost use Prim.Native.Nat.{_-_};
-ghost use Rattle.agreement.specs.Limits.{placeOf};
-ghost use Rattle.agreement.specs.Grades.{Gives};
-ghost use Rattle.bench.specs.Layout.{logsPlace};
-ghost use Rattle.bench.specs.ByRecord.{candidateOf, lockOf, decisionOf};
-ghost use Rattle.bench.specs.Answers.{stateOf};
+ghost use mathlib.Core.List.{[]};
+ghost use Prim.Native.Nat.{_-_, _<_};
+ghost use Rattle.agreement.specs.Limits.{mostSenders, placeOf};
+ghost use Rattle.agreement.specs.Record.{agreementFrom};
+ghost use Rattle.agreement.specs.Grades.{Gives, gradeOf};
+ghost use Rattle.agreement.specs.Proposals.{proposalsFrom, choiceOf, Chooses};
+ghost use Rattle.bench.specs.Layout.{logsPlace, proposalsPlace};
+ghost use Rattle.bench.specs.Calendar.{actAt};
+ghost use Rattle.bench.specs.Record.{benchFrom, ofView, proposedIn};
+ghost use Rattle.bench.specs.ByRecord.{usedOf};
+ghost use Rattle.bench.specs.Answers.{heldWith};
 ghost use Rattle.bench.specs.Tested.{Usable};
 ghost use Rattle.calls.specs.Steps.{Finds, ballotOf};
 use super::record::is_even;
 use super::record::logs_place;
-use super::record::of_view;
-use super::record::proposals_of;
 use agreement::Choice;
 use agreement::Grade;
-use bench::Bench;
+use agreement::Marks;
+use agreement::grading::grade;
+use agreement::proposing::choose;
+use bench::Head;
 use bench::PROPOSALS_PLACE;
 use message::MOST_BLOCKS;
 
@@ -36,71 +41,117 @@ pub(crate) fn place_before(v: u32, i: u8) -> usize
     base as usize + MOST_BLOCKS * (i as usize)
 }
 
-// The longest log with grade 0 of the view before v; the empty log for v = 0.
-pub(crate) fn candidate(b: Bench, names: &[u64], counts: &[u16], v: u32) -> Grade
-    ensures { λ r. ⌜ Gives (candidateOf (stateOf b (now (names .entry)) (now (counts .entry))) v) (now (names .entry)) (now (counts .entry)) (logsPlace (v - 1)) r ⌝ }
+// The longest log with this grade in a slot, as far as the slot is of view v.
+fn graded(
+    g: Marks,
+    lengths: &[u8; 32],
+    names: &[u64],
+    counts: &[u16],
+    base: u32,
+    v: u32,
+    k: u8,
+) -> Grade
+    ensures { λ r. ⌜ Gives (gradeOf (now (names .entry)) (now (counts .entry)) base (ofView (agreementFrom g (now (lengths .entry))) v) k) (now (names .entry)) (now (counts .entry)) base r ⌝ }
 {
-    if v == 0 {
-        return Grade::Longest(0, 0);
+    if g.view == v {
+        return grade(g, lengths, names, counts, base, k);
     }
-    let base = logs_place(v - 1);
-    if is_even(v - 1) {
-        let g = of_view(b.even, v - 1);
-        return agreement::grading::zero(g, names, counts, base);
-    }
-    let g = of_view(b.odd, v - 1);
-    agreement::grading::zero(g, names, counts, base)
+    Grade::Nothing
 }
 
-// The longest with grade 1; the empty log for v = 0.
-pub(crate) fn lock(b: Bench, names: &[u64], counts: &[u16], v: u32) -> Grade
-    ensures { λ r. ⌜ Gives (lockOf (stateOf b (now (names .entry)) (now (counts .entry))) v) (now (names .entry)) (now (counts .entry)) (logsPlace (v - 1)) r ⌝ }
+// The log that the act at this place of view v uses: place k reads grade k, and place 3 none. For view 0 it is the empty log, or none.
+pub(crate) fn used(
+    h: Head,
+    even: &[u8; 32],
+    odd: &[u8; 32],
+    names: &[u64],
+    counts: &[u16],
+    v: u32,
+    place: u8,
+) -> Grade
+    ensures { λ r. ⌜ Gives (usedOf (heldWith (benchFrom h (now (even .entry)) (now (odd .entry)) [] []) (now (names .entry)) (now (counts .entry))) v (actAt place))
+        (now (names .entry)) (now (counts .entry)) (logsPlace (v - 1)) r ⌝ }
 {
-    if v == 0 {
-        return Grade::Longest(0, 0);
+    if 2 < place {
+        return Grade::Nothing;
     }
-    let base = logs_place(v - 1);
-    if is_even(v - 1) {
-        let g = of_view(b.even, v - 1);
-        return agreement::grading::one(g, names, counts, base);
-    }
-    let g = of_view(b.odd, v - 1);
-    agreement::grading::one(g, names, counts, base)
-}
-
-// The longest with grade 2; none for v = 0.
-pub(crate) fn decision(b: Bench, names: &[u64], counts: &[u16], v: u32) -> Grade
-    ensures { λ r. ⌜ Gives (decisionOf (stateOf b (now (names .entry)) (now (counts .entry))) v) (now (names .entry)) (now (counts .entry)) (logsPlace (v - 1)) r ⌝ }
-{
     if v == 0 {
+        if place < 2 {
+            return Grade::Longest(0, 0);
+        }
         return Grade::Nothing;
     }
     let base = logs_place(v - 1);
     if is_even(v - 1) {
-        let g = of_view(b.even, v - 1);
-        return agreement::grading::two(g, names, counts, base);
+        return graded(h.even, even, names, counts, base, v - 1, place);
     }
-    let g = of_view(b.odd, v - 1);
-    agreement::grading::two(g, names, counts, base)
+    graded(h.odd, odd, names, counts, base, v - 1, place)
+}
+
+// Whose proposal of view v is voted for, given the lock, which is the k blocks at place a.
+fn best(
+    h: Head,
+    proposed: &[u8; 32],
+    priorities: &[u64; 32],
+    names: &[u64],
+    counts: &[u16],
+    v: u32,
+    a: usize,
+    k: usize,
+) -> Choice
+    ensures { λ r. ⌜ Chooses (choiceOf (now (names .entry)) (now (counts .entry)) proposalsPlace (proposedIn (proposalsFrom (h .shown) (now (proposed .entry)) (now (priorities .entry))) v) a k) r ⌝ }
+{
+    let g = h.shown;
+    if g.view == v {
+        return choose(
+            g,
+            proposed,
+            priorities,
+            names,
+            counts,
+            PROPOSALS_PLACE,
+            a,
+            k,
+        );
+    }
+    Choice::Lock
 }
 
 // The log voted for: the best proposal of view v that has the lock as a prefix, else the lock; none without a lock.
-pub(crate) fn ballot(b: Bench, names: &[u64], counts: &[u16], v: u32) -> Found
-    requires { ⌜ Usable (stateOf b (now names) (now counts)) ⌝ }
-    ensures { λ r. ⌜ Finds (ballotOf (stateOf b (now (names .entry)) (now (counts .entry))) v) (now (names .entry)) (now (counts .entry)) r ⌝ }
+pub(crate) fn ballot(
+    h: Head,
+    even: &[u8; 32],
+    odd: &[u8; 32],
+    proposed: &[u8; 32],
+    priorities: &[u64; 32],
+    names: &[u64],
+    counts: &[u16],
+    v: u32,
+) -> Found
+    requires { ⌜ Usable (heldWith (benchFrom h (now even) (now odd) (now proposed) (now priorities)) (now names) (now counts)) ⌝ }
+    ensures { λ r. ⌜ Finds (ballotOf (heldWith (benchFrom h (now (even .entry)) (now (odd .entry)) (now (proposed .entry)) (now (priorities .entry))) (now (names .entry)) (now (counts .entry))) v)
+        (now (names .entry)) (now (counts .entry)) r ⌝ }
 {
-    let Grade::Longest(i, blocks) = lock(b, names, counts, v) else {
+    let Grade::Longest(i, blocks) = used(h, even, odd, names, counts, v, 1) else {
         return Found::Nowhere;
     };
     let at = place_before(v, i);
-    let long = blocks as usize;
-    let g = proposals_of(b, v);
-    let choice = agreement::proposing::choose(g, names, counts, PROPOSALS_PLACE, at, long);
+    let choice = best(
+        h,
+        proposed,
+        priorities,
+        names,
+        counts,
+        v,
+        at,
+        blocks as usize,
+    );
     let Choice::Proposal(j) = choice else {
         return Found::At(at, blocks);
     };
-    let lengths = g.lengths;
-    let best = j as usize;
-    let place = PROPOSALS_PLACE as usize + MOST_BLOCKS * best;
-    Found::At(place, lengths[best])
+    let sender = j as usize;
+    Found::At(
+        PROPOSALS_PLACE as usize + MOST_BLOCKS * sender,
+        proposed[sender],
+    )
 }

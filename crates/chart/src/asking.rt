@@ -4,8 +4,8 @@ use super::answers::ODD;
 use super::answers::ONE;
 use super::answers::TWO;
 use super::replica::Replica;
-use agreement::Agreement;
-use bench::Bench;
+use agreement::Marks;
+use bench::Head;
 
 pub(crate) fn taken(kind: usize, view: u32, beat: u32) -> usize {
     let heard = Replica::fresh().begin(beat).receive(kind, view);
@@ -13,24 +13,24 @@ pub(crate) fn taken(kind: usize, view: u32, beat: u32) -> usize {
 }
 
 // The place of a view's agreement in the record.
-fn slot(bench: Bench, view: u32) -> Agreement {
+fn slot(head: Head, view: u32) -> Marks {
     if view % 2 == 0 {
-        return bench.even;
+        return head.even;
     }
-    bench.odd
+    head.odd
 }
 
-fn stored(g: Agreement, view: u32) -> usize {
+fn stored(g: Marks, view: u32) -> usize {
     if g.view != view {
         return NO;
     }
-    if g.hasone {
-        if g.hastwo {
+    if g.one.taken != 0 {
+        if g.two.taken != 0 {
             return ODD;
         }
         return ONE;
     }
-    if g.hastwo {
+    if g.two.taken != 0 {
         return TWO;
     }
     NO
@@ -42,5 +42,5 @@ pub(crate) fn snapshot(view: u32, beat: u32) -> usize {
     if deed.made == ODD {
         return ODD;
     }
-    stored(slot(deed.replica.bench, view), view)
+    stored(slot(deed.replica.bench.head, view), view)
 }

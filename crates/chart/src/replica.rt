@@ -119,7 +119,7 @@ impl Replica {
     // Its record is of no bench, and each call on it is refused: so an answer on the way that fits no case shows in the last one.
     pub(crate) fn spoilt(self) -> Replica {
         let mut replica = self;
-        replica.bench.n = 0;
+        replica.bench.head.n = 0;
         replica
     }
 
@@ -184,7 +184,7 @@ impl Replica {
             },
             made: message.made,
             view: message.view,
-            decides: bench.decided != self.bench.decided,
+            decides: bench.head.decided != self.bench.head.decided,
         }
     }
 }

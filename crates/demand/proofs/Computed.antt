@@ -10,7 +10,7 @@ use Rattle.agreement.specs.Heard.{someDiffers, keptOf, logsFrom, gradeNow, grad
 use Rattle.agreement.specs.Proposals.{bestOf}
 use Rattle.bench.specs.Acts.{propose, vote, makes, settle}
 use Rattle.bench.specs.Terms.{weightOf}
-use Rattle.bench.specs.History.{refusal, wordFor, file, heardAt, candidateAt, lockAt, decisionAt, madeBy, decidedBy, accepted, acceptedAnswer, step, answer, afterFrom, after, answersFrom, answersTo, actedAt, awake, standIn, stand}
+use Rattle.bench.specs.History.{refusal, wordFor, file, heardAt, gradeAt, usedAt, madeBy, decidedBy, accepted, acceptedAnswer, step, answer, afterFrom, after, answersFrom, answersTo, actedAt, awake, standIn, stand}
 use Rattle.demand.proofs.Decided.{decidedIn}
 use Rattle.demand.proofs.ListTests.{all, any, allBelow}
 use Rattle.demand.proofs.Checks.{sentRead, sentMade, sentBy, sentList, sameContent, madeIt, actMade, deliveredb, numberedb, majorityb}
@@ -20,7 +20,7 @@ unfoldable pub computed : Unit {0}
 unfolding
     anyOf put numberAt numbersAt bytesFor bytesForEach isPrefix sameLog inStep namesOf countsOf messageBytes bytesOf meaningIn malformed readOf
     weightOf weigh maySupport supports longest wordOn someDiffers keptOf logsFrom gradeNow gradeWith proposalsFrom voteAmong bestOf
-    propose vote makes settle refusal wordFor file heardAt candidateAt lockAt decisionAt madeBy decidedBy accepted acceptedAnswer step answer
+    propose vote makes settle refusal wordFor file heardAt gradeAt usedAt madeBy decidedBy accepted acceptedAnswer step answer
     afterFrom after answersFrom answersTo actedAt awake decidedIn standIn stand
     all any allBelow sentRead sentMade sentBy sentList sameContent madeIt actMade deliveredb numberedb majorityb typedb volumeTypedb
 computed = tt

@@ -7,18 +7,17 @@ use mathlib.Core.List.{List, []}
 use mathlib.Core.Option.{some, Option·none-ne-some}
 use mathlib.Core.Bool.{Bool, true, false, not, _&&_, and-eq-true-iff}
 use borrow.Author.Tests.{lt-ltb, le-leb}
-use Rattle.message.specs.Logs.{Block, Log, Prefix, Compatible}
-use Rattle.message.specs.Message.{Content, logMessage}
-use Rattle.agreement.specs.Sets.{weigh}
+use Rattle.message.specs.Logs.{Log, Prefix, Compatible}
+use Rattle.message.specs.Message.{Content}
 use Rattle.agreement.specs.Heard.{heardLogs, votersOf, gradeWith, heardProposals, voteAmong}
 use Rattle.agreement.proofs.SetLaws.{weigh-cong}
 use Rattle.agreement.proofs.SenderLaws.{grade-some}
 use Rattle.agreement.proofs.GradeSources.{vote-extends, logBy}
-use Rattle.bench.specs.Calendar.{lastView, viewBeat, inputBeat, snapshotOneBeat, snapshotTwoBeat, closeBeat, endBeat, actAt, viewOf, placeIn}
+use Rattle.bench.specs.Calendar.{lastView, inputBeat, snapshotOneBeat, snapshotTwoBeat, closeBeat, actAt, viewOf, placeIn, voting}
 use Rattle.bench.specs.Terms.{Terms, Seat, seatOf, weightOf}
 use Rattle.bench.specs.Calls.{Call}
 use Rattle.bench.specs.Acts.{vote, makes, inViews, decides}
-use Rattle.bench.specs.History.{History, beatNow, snapshotOf, lockAt, decisionAt, seenAt, heardAt, madeBy, decidedBy, after, awake}
+use Rattle.bench.specs.History.{History, beatNow, snapshotOf, gradeAt, usedAt, seenAt, heardAt, madeBy, decidedBy, after, awake}
 use Rattle.demand.specs.Places.{ActsAfter, MakesAfter, Decides}
 use Rattle.demand.specs.Premises.{Volume, seat, Keeps, Delivery, Numbers, Majority, counted, breaker}
 use Rattle.demand.proofs.Beats.{beat-is}
@@ -41,7 +40,7 @@ module _ (S : Seat) (cs : List Call) where
 
   made-lock : (pre : List Call) (b v : ℕ) (L : Log) → MakesAfter S cs pre b (logBy (S .own) (suc v) L)
       → (K : Log) × GradedAt S cs pre v (snapshotTwoBeat v) K × Prefix K L
-  unfolding lockAt
+  unfolding usedAt gradeAt
   made-lock pre b v L t =
       let a = the-vote pre b (logBy (S .own) (suc v) L) t in (
         a .locked,
@@ -50,7 +49,7 @@ module _ (S : Seat) (cs : List Call) where
       )
 
   -- an act at a view's input beat votes, where there is a lock
-  acts-vote : (pre : List Call) (v : ℕ) (K : Log) (a : ActsAfter S cs pre (inputBeat v)) → v ≤ lastView → lockAt S (after S pre) v ≡ some K
+  acts-vote : (pre : List Call) (v : ℕ) (K : Log) (a : ActsAfter S cs pre (inputBeat v)) → v ≤ lastView → usedAt S (after S pre) v voting ≡ some K
       → (L : Log) × MakesAfter S cs pre (inputBeat v) (logBy (S .own) v L)
   unfolding madeBy makes vote
   acts-vote pre v K a l q =
@@ -62,7 +61,7 @@ module _ (S : Seat) (cs : List Call) where
 
   next-made : (start pre : List Call) (v : ℕ) → suc v ≤ lastView → ActsAfter S cs start (snapshotTwoBeat v) → ActsAfter S cs pre (inputBeat (suc v))
       → (K : Log) → GradeAfter S pre v start K → (L : Log) × MakesAfter S cs pre (inputBeat (suc v)) (logBy (S .own) (suc v) L)
-  unfolding lockAt
+  unfolding usedAt gradeAt
   next-made start pre v l a b K g =
       let m = grade-some (S .terms .n) (weightOf (S .terms)) (heardLogs (after S pre .heard) v) (votersOf (heardLogs (after S start .heard) v)) K g in
       let s = place-heardAt S cs pre _ (b .place .1) start (snapshotTwoBeat v) a
@@ -70,7 +69,7 @@ module _ (S : Seat) (cs : List Call) where
       acts-vote pre (suc v) (m .0) b l (rw s (m .1))
 
   first-made : (pre : List Call) → ActsAfter S cs pre (inputBeat 0) → (L : Log) × MakesAfter S cs pre (inputBeat 0) (logBy (S .own) 0 L)
-  unfolding lockAt
+  unfolding usedAt gradeAt
   first-made pre a = acts-vote pre 0 [] a (omega arith) refl
 
 -- ---- decisions
@@ -82,8 +81,8 @@ record DecidesAt (S : Seat) (p : History) (v r : ℕ) (L : Log) : Type 0 where
   next : v ≡ suc view
   given : gradeWith (S .terms .n) (weightOf (S .terms)) (heardLogs (p .heard) view) (snapshotOf view (heardAt (p .actions) (snapshotOneBeat view))) ≡ some L
 
-decides-at : (S : Seat) (p : History) (v r : ℕ) (L : Log) → decides (seenAt S p v) (actAt r) ≡ some L → DecidesAt S p v r L
-unfolding decisionAt
+decides-at : (S : Seat) (p : History) (v r : ℕ) (L : Log) → decides (seenAt S p v (actAt r)) (actAt r) ≡ some L → DecidesAt S p v r L
+unfolding usedAt gradeAt
 decides-at S p v zero L e = absurd (Option·none-ne-some _ e)
 decides-at S p v (suc zero) L e = absurd (Option·none-ne-some _ e)
 decides-at S p zero (suc (suc zero)) L e = absurd (Option·none-ne-some _ e)

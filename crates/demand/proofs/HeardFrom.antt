@@ -13,10 +13,10 @@ use Rattle.message.specs.Message.{Content, Meaning, logMessage, proposalMessage
 use Rattle.message.proofs.TestLaws.{either}
 use Rattle.agreement.specs.Heard.{heardProposals, voteAmong}
 use Rattle.bench.specs.Terms.{Seat}
-use Rattle.bench.specs.Calendar.{lastView, inputBeat, actAt, viewOf, placeIn}
+use Rattle.bench.specs.Calendar.{lastView, inputBeat, actAt, viewOf, placeIn, proposing, voting}
 use Rattle.bench.specs.Calls.{Call, begin, receive, act}
 use Rattle.bench.specs.Acts.{mayPropose, propose, vote, isView, inViews, makes}
-use Rattle.bench.specs.History.{History, beatNow, refusal, file, fileMade, closed, accepted, lockAt, candidateAt, seenAt, madeBy, decidedBy, after}
+use Rattle.bench.specs.History.{History, beatNow, refusal, file, fileMade, closed, accepted, usedAt, seenAt, madeBy, decidedBy, after}
 use Rattle.bench.proofs.CallLaws.{act-ok, receive-ok, Receives, accepted-receive, accepted-act}
 use Rattle.demand.specs.Places.{At, ActsAfter, MakesAfter, TakesAfter}
 use Rattle.demand.proofs.Starts.{after-ok, along}
@@ -30,7 +30,7 @@ pub record Vote (S : Seat) (p : History) (m : Content) : Type 0 where
   pub beat : beatNow p ≡ inputBeat (m .view)
   pub range : m .view ≤ lastView
   pub locked : Log
-  pub isLock : lockAt S p (m .view) ≡ some locked
+  pub isLock : usedAt S p (m .view) voting ≡ some locked
   pub voted : m .log ≡ voteAmong (S .terms .n) (heardProposals (p .proposals) (m .view)) locked
 
 meaning-kind : Option Meaning → ℕ
@@ -67,13 +67,13 @@ vote-shape own v choose none h e = absurd (Option·none-ne-some _ e)
 vote-shape own v choose (some M) h e = (M, refl, sym (same-log _ _ e))
 
 makes-vote : (S : Seat) (p : History) (block : Block) (priority v r : ℕ) (h : Content) → viewOf (beatNow p) ≡ v → placeIn (beatNow p) ≡ r
-    → makes (S .own) v block priority (seenAt S p v) (actAt r) ≡ some (logMessage h) → Vote S p h
+    → makes (S .own) v block priority (seenAt S p v (actAt r)) (actAt r) ≡ some (logMessage h) → Vote S p h
 unfolding makes
 makes-vote S p block priority v zero h ev er e =
-    absurd (propose-no-log (S .own) v block priority (candidateAt S p v) h (inViews-some v _ _ e .1))
+    absurd (propose-no-log (S .own) v block priority (usedAt S p v proposing) h (inViews-some v _ _ e .1))
 makes-vote S p block priority v (suc zero) h ev er e =
     let x = inViews-some v _ _ e in
-    let s = vote-shape (S .own) v (voteAmong (S .terms .n) (heardProposals (p .proposals) v)) (lockAt S p v) h (x .1) in
+    let s = vote-shape (S .own) v (voteAmong (S .terms .n) (heardProposals (p .proposals) v)) (usedAt S p v voting) h (x .1) in
     let hv : h .view ≡ v = ap (λ (k : Content). k .view) (s .2) in
     let r = x .0 in
     record {
@@ -81,7 +81,7 @@ makes-vote S p block priority v (suc zero) h ev er e =
       beat = omega arith;
       range = omega arith;
       locked = s .0;
-      isLock = ap (lockAt S p) hv ∙ s .1;
+      isLock = ap (λ (u : ℕ). usedAt S p u voting) hv ∙ s .1;
       voted = ap (λ (k : Content). k .log) (s .2) ∙ ap (λ (u : ℕ). voteAmong (S .terms .n) (heardProposals (p .proposals) u) (s .0)) (sym hv);
     }
 makes-vote S p block priority v (suc (suc zero)) h ev er e = absurd (Option·none-ne-some _ e)

@@ -5,7 +5,7 @@ use native.Mathlib.Omega.{arith}
 use mathlib.Core.Path.{_≡_, sym, ap, subst, _∙_}
 use mathlib.Core.Logic.{inl, inr}
 use mathlib.Core.List.{List, [], _∷_, _++_, append-assoc, List·Memᴰ as Mem}
-use mathlib.Core.Option.{some, none, Option·none-ne-some, Option·some-injective}
+use mathlib.Core.Option.{some, none, Option·some-injective}
 use mathlib.Core.Bool.{true, false≢true, and-eq-true-iff}
 use borrow.Author.Tests.{leb-true}
 use Rattle.message.specs.Message.{Content, logMessage}

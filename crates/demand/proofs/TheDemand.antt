@@ -5,13 +5,13 @@ use mathlib.Core.Bool.{true, false}
 use mathlib.Core.Option.{some, none, Option·none-ne-some, Option·some-injective}
 use mathlib.Core.Path.{_≡_, refl, sym, ap, subst, _∙_}
 use Rattle.message.proofs.TestLaws.{either}
+use Rattle.agreement.specs.Sets.{isYes}
 use Rattle.bench.specs.Terms.{Terms, Seat, seatOf}
 use Rattle.bench.specs.Layout.{Lent, outOfRange, shortLists}
 use Rattle.bench.specs.Calls.{Call, begin, receive, act, refused, done, State, Opening, Step, Typed}
 use Rattle.bench.specs.History.{History, fresh, openRefusal}
-use Rattle.bench.specs.Record.{freshBench}
+use Rattle.bench.specs.Record.{freshBench, Bench}
 use Rattle.bench.specs.ByRecord.{notOpened, openOf}
-use Rattle.bench.specs.declared.Bench.{Bench}
 use Rattle.bench.proofs.Ties.{Tie}
 use Rattle.bench.proofs.CallTies.{Agrees, begin-agrees, receive-agrees, open-tie}
 use Rattle.bench.proofs.Refusals.{open-7, open-8, open-done, begin-lent}
@@ -50,7 +50,7 @@ module _ (T : Terms) (own : ℕ) (l : Lent) where
       (λ e f. rw (open-8 (T .n) own l e f) (ap refused (Option·some-injective _ _ (rw (e, f) at r))))
       (λ e f. absurd (Option·none-ne-some _ (rw (e, f) at r)))
 
-  opens : openRefusal (seatOf T own) l ≡ none → (openOf (T .n) own l .reply ≡ done) × (openOf (T .n) own l .bench .decided ≡ 0) × (openOf (T .n) own l .bench .parted ≡ false)
+  opens : openRefusal (seatOf T own) l ≡ none → (openOf (T .n) own l .reply ≡ done) × (openOf (T .n) own l .bench .decided ≡ 0) × (isYes (openOf (T .n) own l .bench .parted) ≡ false)
   unfolding openRefusal
   opens r =
       open-causes

@@ -3,16 +3,16 @@ use Prim.Native.Nat.{ℕ, zero, suc, _≤_, _<_}
 use native.Mathlib.Omega.{arith}
 use native.Mathlib.Nat.{le-refl}
 use mathlib.Core.Path.{_≡_, refl, sym, ap, subst, _∙_}
-use mathlib.Core.List.{List, [], _∷_, _++_}
-use mathlib.Core.Option.{Option, some, none, Option·some-injective}
+use mathlib.Core.List.{List, _∷_, _++_}
+use mathlib.Core.Option.{Option, some, none}
 use mathlib.Core.Bool.{Bool, true, false, not, _&&_, and-eq-true-iff, Bool·not-not}
 use Rattle.message.specs.Logs.{Log, Prefix, Compatible}
-use Rattle.message.specs.Message.{Content, Meaning, logMessage, said}
+use Rattle.message.specs.Message.{Content, Meaning, said}
 use Rattle.agreement.specs.Sets.{weigh}
 use Rattle.agreement.specs.Reading.{Grade, LongestLog}
 use Rattle.agreement.specs.Heard.{heardLogs, votersOf, readingFrom}
 use Rattle.agreement.proofs.GradeSources.{logBy}
-use Rattle.bench.specs.Terms.{Terms, Seat, seatOf, weightOf}
+use Rattle.bench.specs.Terms.{Seat, weightOf}
 use Rattle.bench.specs.Calls.{Call, begin, receive, act}
 use Rattle.bench.specs.History.{History, madeBy, after}
 use Rattle.bench.proofs.CallLaws.{act-ok}
@@ -22,7 +22,7 @@ use Rattle.demand.proofs.Hearing as protocol
 use Rattle.demand.proofs.Hearing.{reading, Run}
 use Rattle.demand.proofs.Safety.{safety}
 use Rattle.demand.proofs.Beats.{Order, same, before, behind, ordered, later}
-use Rattle.demand.proofs.Snapshots.{ReadAfter, GradedAt}
+use Rattle.demand.proofs.Snapshots.{ReadAfter}
 use Rattle.demand.proofs.Taking.{Took, tookTaken, tookMade}
 use Rattle.demand.proofs.Timetable.{Timetable, GradeAfter}
 use Rattle.demand.proofs.HearingOf.{awakeb, Keeping, DeliveryBy, NumbersBy, heardBy, keeps-of, Sent, heard-at, awake-place, place-awake, hearing}

@@ -5,6 +5,7 @@ use mathlib.Core.List.{List, [], _∷_, _++_}
 use mathlib.Core.Option.{some, none}
 use mathlib.Core.Path.{_≡_}
 use Rattle.message.specs.Logs.{Block, Log, Conflict}
+use Rattle.agreement.specs.Sets.{isYes}
 use Rattle.bench.specs.Terms.{Terms, seatOf}
 use Rattle.bench.specs.Layout.{Lent}
 use Rattle.bench.specs.Calls.{Call, begin, receive, act, refused, done, Answer, State, Opening, Step, Typed, AllTyped, TypedOpen}
@@ -62,7 +63,7 @@ pub record OpensRightly (M : Machine) : Type 0 where
       (T : Terms) (own : ℕ) (l : Lent) (k : ℕ) → TypedOpen (T .n) own l → openRefusal (seatOf T own) l ≡ some k → M .open′ T own l .reply ≡ refused k
   pub opens :
       (T : Terms) (own : ℕ) (l : Lent) → TypedOpen (T .n) own l → openRefusal (seatOf T own) l ≡ none
-      → (M .open′ T own l .reply ≡ done) × (M .open′ T own l .bench .decided ≡ 0) × (M .open′ T own l .bench .parted ≡ false)
+      → (M .open′ T own l .reply ≡ done) × (M .open′ T own l .bench .decided ≡ 0) × (isYes (M .open′ T own l .bench .parted) ≡ false)
 
 pub record Faithful (M : Machine) : Type 0 where
   pub opens : OpensRightly M

@@ -1,6 +1,7 @@
 // Begin, Receive and Act on a record that is lent and found moved on: each takes the record out, makes the call by value and stores
 // the record that it gave. So each is that call, and promises what it does, with the record behind the reference in place of the
 // one taken and the one given back. A refusal stores the record as it was.
+ghost use Rattle.bench.specs.Record.{benchOf};
 ghost use Rattle.bench.specs.ByRecord.{beginOf, receiveOf, actOf};
 ghost use Rattle.bench.specs.Answers.{stateOf, BeginGives, ReceiveGives, ActGives};
 use bench::Bench;
@@ -9,7 +10,7 @@ use bench::Start;
 use bench::Taken;
 
 pub fn begin(bench: &mut Bench, names: &[u64], counts: &[u16], beat: u32) -> Start
-    ensures { λ r. ⌜ BeginGives (beginOf (stateOf (now (bench .entry)) (now (names .entry)) (now (counts .entry))) beat) (record { answer = r; bench = now (bench .exit) }) (now (names .exit)) (now (counts .exit)) ⌝ }
+    ensures { λ r. ⌜ BeginGives (beginOf (stateOf (now (bench .entry)) (now (names .entry)) (now (counts .entry))) beat) r (benchOf (now (bench .exit))) (now (names .exit)) (now (counts .exit)) ⌝ }
 {
     let given = calls::begin(*bench, names, counts, beat);
     *bench = given.bench;
@@ -17,7 +18,7 @@ pub fn begin(bench: &mut Bench, names: &[u64], counts: &[u16], beat: u32) -> Sta
 }
 
 pub fn receive(bench: &mut Bench, names: &mut [u64], counts: &mut [u16], message: &[u8]) -> Taken
-    ensures { λ r. ⌜ ReceiveGives (receiveOf (stateOf (now (bench .entry)) (now (names .entry)) (now (counts .entry))) (now (message .entry))) (record { answer = r; bench = now (bench .exit) }) (now (names .exit)) (now (counts .exit)) ⌝ }
+    ensures { λ r. ⌜ ReceiveGives (receiveOf (stateOf (now (bench .entry)) (now (names .entry)) (now (counts .entry))) (now (message .entry))) r (benchOf (now (bench .exit))) (now (names .exit)) (now (counts .exit)) ⌝ }
 {
     let given = calls::receive(*bench, names, counts, message);
     *bench = given.bench;
@@ -33,7 +34,7 @@ pub fn act(
     count: u16,
     priority: u64,
 ) -> Made
-    ensures { λ r. ⌜ ActGives (actOf (stateOf (now (bench .entry)) (now (names .entry)) (now (counts .entry))) (record { name = name; count = count }) priority (now (out .entry))) (record { answer = r; bench = now (bench .exit) }) (now (names .exit)) (now (counts .exit)) (now (out .exit)) ⌝ }
+    ensures { λ r. ⌜ ActGives (actOf (stateOf (now (bench .entry)) (now (names .entry)) (now (counts .entry))) (record { name = name; count = count }) priority (now (out .entry))) r (benchOf (now (bench .exit))) (now (names .exit)) (now (counts .exit)) (now (out .exit)) ⌝ }
 {
     let given = calls::act(*bench, names, counts, out, name, count, priority);
     *bench = given.bench;

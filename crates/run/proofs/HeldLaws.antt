@@ -1,51 +1,139 @@
 -- What is held after the calls of a roll: the loop that makes them; the lines and demand 3 go through the same. Assumes nothing.
 use Prim.Native.Nat.{ℕ, zero, suc, _+_, _-_, _*_, _≤_, _<_}
 use native.Mathlib.Omega.{arith}
-use mathlib.Core.Bool.{false}
+use mathlib.Core.Bool.{Bool, true, false, false≢true}
 use mathlib.Core.List.{List, [], _∷_, _++_, append-assoc}
 use mathlib.Core.Path.{_≡_, refl, sym, ap, _∙_}
-use lib.ListN.{length}
+use lib.ListN.{length, length-append}
+use Rattle.message.specs.Numbers.{put}
+use Rattle.message.proofs.PartLaws.{put-append}
+use Rattle.agreement.specs.Sets.{isYes}
 use Rattle.bench.specs.Calls.{Call, State}
-use Rattle.bench.specs.Answers.{stateOf}
+use Rattle.bench.specs.Answers.{heldWith}
 use Rattle.calls.specs.Steps.{Leaves}
-use Rattle.bench.specs.declared.Bench.{Bench}
-use Rattle.run.specs.declared.Called.{Called}
+use Rattle.bench.specs.Record.{Bench}
+use Rattle.run.specs.declared.Answered.{Answered}
 use Rattle.demand.specs.Demand.{byValue, Event, runs}
 use Rattle.demand.specs.TheBench.{theBench}
-use Rattle.run.specs.Roll.{eventsOf, lengthAt, bodiesPlace, misfits, callAt, callsFrom}
+use Rattle.run.specs.Roll.{mostRoll, mostEvents, eventsOf, lengthAt, bodiesPlace, misfits, callAt, callsFrom}
 use Rattle.run.specs.RollText.{lineOf, stepOf, linesOf}
-use Rattle.run.specs.RollSteps.{Shaped, Lies, EventGives}
+use Rattle.run.specs.RollSteps.{lineRoom, answerText, Puts, Remains, EventGives, Shaped, Lies, told, LineFits, LineEnds, LinesFit, Runs, Ahead}
 use Rattle.run.specs.Held.{heldAfter, firstCalls, bodyFrom}
 use Rattle.run.proofs.RollForm.{lies}
-use Rattle.run.proofs.EventLaws.{calls-step, leaves-state}
+use Rattle.run.proofs.TextLaws.{puts-none}
 
 -- event i of the first k, in a roll of the right form with e events
 pub lies-within : (s : List ℕ) (i a e : ℕ) → misfits s i a (e - i) ≡ false → (k : ℕ) → i < k → k ≤ e → e ≡ eventsOf s → Shaped s → Lies s i a
 lies-within s i a e inv k h r q f = lies s i a e q f inv (omega arith)
 
+-- ---- room for the lines
+
+module _ (prints : Bool) (i p : ℕ) (text : List ℕ) (room : LinesFit prints i p text) where
+  pub line-room : (k e : ℕ) → i < k → k ≤ e → e ≤ mostEvents → LineFits prints p text
+  line-room k e h l few = record { room = λ t. let a = room .low t in let b = room .long t in omega arith }
+
+  pub room-next : (q : ℕ) (m : List ℕ) → LineEnds prints p q → length m ≡ length text → LinesFit prints (i + 1) q m
+  room-next q m f same = record {
+    low = λ t. let a = room .low t in let b = f .short t in omega arith;
+    long = λ t. let a = room .long t in omega arith;
+  }
+
+-- at first: in a text, and where no lines are asked for
+pub room-first : (p : ℕ) (text : List ℕ) → p ≤ lineRoom → mostRoll ≤ length text → LinesFit true 0 p text
+room-first p text h k = record { low = λ t. omega arith; long = λ t. k }
+
+pub room-silent : (p : ℕ) (text : List ℕ) → LinesFit false 0 p text
+room-silent p text = record { low = λ t. absurd (false≢true t); long = λ t. absurd (false≢true t) }
+
+-- ---- a line where lines are asked for
+
+pub line-fits : (prints : Bool) (p : ℕ) (text : List ℕ) → LineFits prints p text → prints ≡ true → p + lineRoom ≤ length text
+line-fits prints p text f e = f .room e
+
+module _ (prints : Bool) (xs : List ℕ) (p : ℕ) (text : List ℕ) where
+  pub told-none : prints ≡ false → Puts (told prints xs) p text p text
+  told-none e = rw e (puts-none [] p text refl)
+
+  pub told-all : (q : ℕ) (m : List ℕ) → prints ≡ true → Puts xs p text q m → Puts (told prints xs) p text q m
+  told-all q m e f = rw e f
+
+pub line-ends : (prints : Bool) (p q : ℕ) → q ≤ p + lineRoom → LineEnds prints p q
+line-ends prints p q l = record { short = λ t. l }
+
+told-append : (prints : Bool) (xs ys : List ℕ) → told prints (xs ++ ys) ≡ told prints xs ++ told prints ys
+told-append true xs ys = refl
+told-append false xs ys = refl
+
 -- ---- the calls, one after the other
+
+calls-step : (s : List ℕ) (i a m : ℕ) → 0 < m → callsFrom s i a m ≡ callAt s i a ∷ callsFrom s (i + 1) (a + lengthAt s i) (m - 1)
+unfolding callsFrom
+calls-step s i a m h = let e : m ≡ suc (m - 1) = omega arith in ap (callsFrom s i a) e
+
+lines-step : (x : State) (c : Call) (cs : List Call) → linesOf x (c ∷ cs) ≡ lineOf c (stepOf x c) ++ linesOf (stepOf x c .held) cs
+unfolding linesOf
+lines-step x c cs = refl
 
 held-step : (x : State) (c : Call) (cs : List Call) → heldAfter x (c ∷ cs) ≡ heldAfter (stepOf x c .held) cs
 unfolding heldAfter
 held-step x c cs = refl
 
-pub held-start : (s : List ℕ) (x : State) (e k : ℕ) → e ≡ eventsOf s → heldAfter x (firstCalls s k) ≡ heldAfter x (callsFrom s 0 (4 + 4 * e) (k - 0))
-held-start s x e k q = let n : k - 0 ≡ k = omega arith in rw (n, q)
+remains-next : (z : List ℕ) (r : ℕ) (l : List ℕ) (p : ℕ) (xs ys : List ℕ) (q : ℕ) (m : List ℕ) → Remains z r l p (xs ++ ys) → Puts xs p l q m → Remains z r m q ys
+remains-next z r l p xs ys q m f g = record {
+  place = f .place ∙ (rw length-append (omega (arith, g .place)));
+  whole = f .whole ∙ put-append l p xs ys ∙ rw (g .text, g .place);
+}
 
-module _ (z : State) (s : List ℕ) (i a k : ℕ) (b : Bench) (ns cs : List ℕ) (left : z ≡ heldAfter (stateOf b ns cs) (callsFrom s i a (k - i))) where
-  pub held-end : k ≤ i → Leaves z b ns cs
-  unfolding heldAfter callsFrom
-  held-end h = let n : k - i ≡ 0 = omega arith in rw (left, n) (record { bench = refl; nameList = refl; countList = refl })
+pub leaves-state : (y : State) (b : Bench) (ns cs : List ℕ) → Leaves y b ns cs → heldWith b ns cs ≡ y
+leaves-state y b ns cs f = rw (f .bench, f .nameList, f .countList)
 
-  pub held-next : i < k → (r : Called) (ns′ cs′ : List ℕ) → EventGives (callAt s i a) (stateOf b ns cs) r ns′ cs′ → (m : ℕ) → m ≡ lengthAt s i
-      → z ≡ heldAfter (stateOf (r .bench) ns′ cs′) (callsFrom s (i + 1) (a + m) (k - (i + 1)))
-  held-next more r ns′ cs′ g m long =
-      let n : k - i - 1 ≡ k - (i + 1) = omega arith in
-      let c = callAt s i a in
-      let rest = callsFrom s (i + 1) (a + lengthAt s i) (k - (i + 1)) in
-      let y = stepOf (stateOf b ns cs) c .held in
-      let u : heldAfter (stateOf b ns cs) (callsFrom s i a (k - i)) ≡ heldAfter y rest = rw (calls-step s i a (k - i) (omega arith), n) (held-step (stateOf b ns cs) c rest) in
-      rw (long, leaves-state y (r .bench) ns′ cs′ (g .leaves)) (left ∙ u)
+-- nothing is left to write
+remains-none : (xs : List ℕ) (at : ℕ) (before text : List ℕ) (p : ℕ) (prints : Bool) → Remains (put before at xs) (at + length xs) text p (told prints []) → Puts xs at before p text
+unfolding put
+remains-none xs at before text p true f = record { place = omega (arith, f .place); text = sym (f .whole) }
+remains-none xs at before text p false f = record { place = omega (arith, f .place); text = sym (f .whole) }
+
+module _ (prints : Bool) (s : List ℕ) (k : ℕ) (x : State) (at : ℕ) (before : List ℕ) where
+  pub ahead-start : (e : ℕ) → e ≡ eventsOf s → Ahead prints s k x at before 0 (4 + 4 * e) x at before
+  ahead-start e q =
+      let n : k - 0 ≡ k = omega arith in
+      rw q (record { held = rw n; lines = rw n (record { place = refl; whole = refl }) })
+
+  module _ (i a : ℕ) (b : Bench) (ns cs : List ℕ) (p : ℕ) (text : List ℕ) (left : Ahead prints s k x at before i a (heldWith b ns cs) p text) where
+    pub ahead-end : (room : LinesFit prints i p text) (e : ℕ) → k ≤ i → i ≤ k → k ≤ e → e ≤ mostEvents → Runs prints s k x at before b p ns cs text
+    unfolding heldAfter linesOf callsFrom
+    ahead-end room e h l f few =
+        let n : k - i ≡ 0 = omega arith in
+        let g = rw n at (left .held) in
+        let t = rw n at (left .lines) in
+        record {
+          leaves = rw g (record { bench = refl; nameList = refl; countList = refl });
+          lines = remains-none (told prints (linesOf x (firstCalls s k))) at before text p prints t;
+          short = λ u. let w = room .low u in omega arith;
+        }
+
+    pub ahead-next : i < k → (r : Answered) (c : Bench) (ns′ cs′ : List ℕ) → EventGives (callAt s i a) (heldWith b ns cs) r c ns′ cs′ → (q : ℕ) (m : List ℕ)
+        → Puts (told prints (answerText (c .decided) (isYes (c .parted)) r)) p text q m → (w : ℕ) → w ≡ lengthAt s i
+        → Ahead prints s k x at before (i + 1) (a + w) (heldWith c ns′ cs′) q m
+    ahead-next more r c ns′ cs′ g q m f w long =
+        let n : k - i - 1 ≡ k - (i + 1) = omega arith in
+        let call = callAt s i a in
+        let rest = callsFrom s (i + 1) (a + lengthAt s i) (k - (i + 1)) in
+        let y = heldWith b ns cs in
+        let z = stepOf y call .held in
+        let here : callsFrom s i a (k - i) ≡ call ∷ rest = rw (calls-step s i a (k - i) (omega arith), n) in
+        let whole : told prints (linesOf y (callsFrom s i a (k - i))) ≡ told prints (lineOf call (stepOf y call)) ++ told prints (linesOf z rest) =
+        rw (here, lines-step y call rest) (told-append prints (lineOf call (stepOf y call)) (linesOf z rest)) in
+        rw (long, leaves-state z c ns′ cs′ (g .leaves))
+        (record {
+          held = left .held ∙ ap (heldAfter y) here ∙ held-step y call rest;
+          lines = remains-next _ _ text p (told prints (lineOf call (stepOf y call))) (told prints (linesOf z rest)) q m (rw whole at (left .lines)) (rw (g .line) at f);
+        })
+
+-- no lines were asked for: nothing is written
+pub silent : (s : List ℕ) (k : ℕ) (x : State) (before : List ℕ) (b : Bench) (r : ℕ) (ns cs after : List ℕ) → Runs false s k x 0 before b r ns cs after → after ≡ before
+unfolding put
+silent s k x before b r ns cs after f = f .lines .text
 
 -- ---- where a body starts
 

@@ -10,7 +10,7 @@ use Rattle.message.specs.Numbers.{part, put, numberAt, numberIn, numbersAt, byt
 use Rattle.message.specs.Logs.{Log, isPrefix, sameLog, inStep, namesOf, countsOf}
 use Rattle.message.specs.Message.{Meaning, logMessage, proposalMessage, messageBytes, bytesOf, malformed, readOf, meaningIn}
 use Rattle.message.specs.Store.{logAt}
-use Rattle.agreement.specs.Sets.{weigh}
+use Rattle.agreement.specs.Sets.{weigh, member, adding, removing}
 use Rattle.agreement.specs.Reading as reading
 use Rattle.agreement.specs.Reading.{maySupport, supports, hasGrade, under, prefixes, candidates, longestOf, longest}
 use Rattle.agreement.specs.Record.{overlong}
@@ -23,7 +23,7 @@ use Rattle.agreement.specs.Tally.{supportersOf}
 use Rattle.agreement.specs.declared.Grade.the-variants.{Longest}
 use Rattle.bench.specs.Acts.{propose, vote, makes}
 use Rattle.bench.specs.Record.{agreementOf, proposalsOf, withAgreement, anyPlace, beyondAgreement, beyondProposals, beyond}
-use Rattle.bench.specs.ByRecord.{openOf, beginOf, keptAgreement, keptProposals, receiveOf, actOf, actedOf, candidateOf, lockOf, decisionOf, settled, snappedOne, snappedTwo, changed, fileMessage}
+use Rattle.bench.specs.ByRecord.{openOf, beginOf, keptAgreement, keptProposals, receiveOf, actOf, actedOf, usedOf, settled, snappedBy, changed, fileMessage}
 use Rattle.bench.specs.Readings.{agreementBefore}
 use Rattle.run.specs.Roll.{freshBuffer, rightBody, wrongMark, misfits, misshapen, callAt, callsFrom}
 use Rattle.run.specs.RollText.{freshLists}
@@ -47,9 +47,9 @@ vote-of v = some (logMessage (record { sender = 0; view = v; log = found }))
 pub sample-made : map (λ (k : ℕ). madeOf sampleRoll k freshBuffer) (1 ∷ 3 ∷ 5 ∷ 11 ∷ 13 ∷ 10 ∷ 14 ∷ []) ≡ proposal ∷ vote-of 0 ∷ none ∷ vote-of 1 ∷ none ∷ none ∷ none ∷ []
 unfolding
     madeOf madeOn noAct heldAfter bodyFrom misshapen misfits wrongMark rightBody callAt callsFrom numberIn openOf
-    beginOf receiveOf readOf malformed meaningIn choice.anyOf actOf actedOf changed snappedOne snappedTwo settled candidateOf lockOf decisionOf fileMessage keptAgreement keptProposals agreementOf
+    beginOf receiveOf readOf malformed meaningIn choice.anyOf actOf actedOf changed snappedBy settled usedOf fileMessage keptAgreement keptProposals agreementOf
     proposalsOf withAgreement anyPlace beyondAgreement beyondProposals beyond propose vote makes voteAmong keptProposal fileProposalOf bestOf gradeAmong
-    fileOf overlong maySupport supports hasGrade under prefixes candidates reading.longer longestOf longest weigh logAt messageBytes
+    fileOf overlong maySupport supports hasGrade under prefixes candidates reading.longer longestOf longest weigh member adding removing logAt messageBytes
     bytesOf part put numberAt numbersAt bytesFor bytesForEach isPrefix sameLog inStep namesOf countsOf
 sample-made = refl
 
@@ -74,9 +74,9 @@ reading-then = 1 ∷ 0 ∷ 1 ∷ 1 ∷ 1 ∷ []
 pub sample-page : Shows (heldAt sampleRoll freshLists 13) (replicate 337 0) (slot 0 1 alone ++ (slot 1 0 nobody ++ reading-then))
 unfolding
     heldAfter callAt callsFrom numberIn openOf
-    beginOf receiveOf readOf malformed meaningIn choice.anyOf actOf actedOf changed snappedOne snappedTwo settled candidateOf lockOf decisionOf fileMessage keptAgreement keptProposals agreementOf
+    beginOf receiveOf readOf malformed meaningIn choice.anyOf actOf actedOf changed snappedBy settled usedOf fileMessage keptAgreement keptProposals agreementOf
     proposalsOf withAgreement anyPlace beyondAgreement beyondProposals beyond propose vote makes voteAmong keptProposal fileProposalOf bestOf gradeAmong
-    fileOf overlong maySupport supports hasGrade under prefixes candidates reading.longer longestOf longest weigh logAt messageBytes
+    fileOf overlong maySupport supports hasGrade under prefixes candidates reading.longer longestOf longest weigh member adding removing logAt messageBytes
     bytesOf part put numberAt numbersAt bytesFor bytesForEach isPrefix sameLog inStep namesOf countsOf
     flagsFrom headBytes setsBytes slotBytes readBytes pageBytes agreementBefore supportersOf
 sample-page = record {

@@ -3,11 +3,11 @@
 pub mod RollForm
 pub mod TextLaws
 pub mod EventLaws
+pub mod HeldLaws
 pub mod DecimalLaws
 pub mod RollHistory
 pub mod RollTables
 -- What is held between a roll's calls:
-pub mod HeldLaws
 pub mod MadeLaws
 pub mod PageLaws
 pub mod HeldTables

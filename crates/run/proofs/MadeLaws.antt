@@ -17,22 +17,20 @@ use Rattle.message.proofs.WrittenFields.{length-message}
 use Rattle.bench.specs.Layout.{mostBytes, Lent, shortLists}
 use Rattle.bench.specs.Calls.{Reply, refused, done, took, acted, State}
 use Rattle.bench.specs.Acts.{outAfter}
-use Rattle.bench.specs.Record.{idle, beyond}
+use Rattle.bench.specs.Record.{idle, beyond, Bench}
 use Rattle.bench.specs.ByRecord.{actedOf, actOf}
-use Rattle.bench.specs.Answers.{stateOf, contentMade, madeReply, ActGives}
+use Rattle.bench.specs.Answers.{heldWith, contentMade, madeReply, ActGives}
 use Rattle.calls.specs.Steps.{Leaves}
-use Rattle.bench.specs.declared.Bench.{Bench}
 use Rattle.bench.specs.declared.Made.{Made}
 use Rattle.bench.specs.declared.Made.the-variants as makings
-use Rattle.bench.specs.declared.Acted.{Acted}
 use Rattle.bench.proofs.Buffer.{madeIn, act-out, out-made}
 use Rattle.run.specs.declared.Offer.{Offer}
 use Rattle.run.specs.Roll.{eventsOf, kindAt, actKind, misshapen, freshBuffer, offeredAt, priorityAt, callAt}
 use Rattle.run.specs.RollText.{freshLists, stepOf}
-use Rattle.run.specs.RollSteps.{Shaped, offerAt, lengthFor, noneMade}
+use Rattle.run.specs.RollSteps.{Shaped, offerAt, lengthFor, noneMade, Runs}
 use Rattle.run.specs.Held.{heldAfter, firstCalls, bodyPlace, openingOf, openedOn, openRefuses}
 use Rattle.run.specs.MadeBytes.{madeBy, noAct, actAfter, madeOn, madeOf, madeLength, GivesMade}
-use Rattle.run.proofs.EventLaws.{leaves-state}
+use Rattle.run.proofs.HeldLaws.{leaves-state, silent}
 use Rattle.run.proofs.RollForm.{shaped}
 
 -- ---- which events are no Act
@@ -92,21 +90,21 @@ module _ (x : State) (block : Block) (priority : ℕ) (out : List ℕ) where
       let n = length-append (bytesOf m) (drop (length (bytesOf m)) out) in
       omega arith
 
-  act-gives : (r : Acted) (ns cs after : List ℕ) (n : ℕ) → ActGives (actOf x block priority out) r ns cs after → n ≡ lengthFor (r .answer)
+  act-gives : (r : Made) (b : Bench) (ns cs after : List ℕ) (n : ℕ) → ActGives (actOf x block priority out) r b ns cs after → n ≡ lengthFor r
       → GivesMade (madeBy (actOf x block priority out .answer .reply)) out n after
-  act-gives r ns cs after n g e =
-      let a : n ≡ madeLength (madeBy (actOf x block priority out .answer .reply)) = e ∙ length-answer after (r .answer) ∙ ap (λ (p : Reply). madeLength (madeBy p)) (g .answered) in
+  act-gives r b ns cs after n g e =
+      let a : n ≡ madeLength (madeBy (actOf x block priority out .answer .reply)) = e ∙ length-answer after r ∙ ap (λ (p : Reply). madeLength (madeBy p)) (g .answered) in
       record {
         answered = a;
         fits = let f = made-fits (actOf x block priority out .answer .reply) refl in let l = ap length (g .buffer) in omega arith;
         buffer = g .buffer ∙ act-out x block priority out ∙ ap (λ (o : Option Meaning). outAfter o out) (made-same (actOf x block priority out .answer .reply));
       }
 
-pub act-makes : (s : List ℕ) (a : ℕ) (x : State) (out : List ℕ) (o : Offer) (r : Acted) (ns cs after : List ℕ) (n : ℕ) → o ≡ offerAt s a
-    → ActGives (actOf x (record { name = o .name; count = o .count }) (o .priority) out) r ns cs after → n ≡ lengthFor (r .answer)
+pub act-makes : (s : List ℕ) (a : ℕ) (x : State) (out : List ℕ) (o : Offer) (r : Made) (b : Bench) (ns cs after : List ℕ) (n : ℕ) → o ≡ offerAt s a
+    → ActGives (actOf x (record { name = o .name; count = o .count }) (o .priority) out) r b ns cs after → n ≡ lengthFor r
     → GivesMade (madeBy (actOf x (offeredAt s a) (priorityAt s a) out .answer .reply)) out n after
 unfolding offerAt
-act-makes s a x out o r ns cs after n q g e = act-gives x (offeredAt s a) (priorityAt s a) out r ns cs after n (rw q at g) e
+act-makes s a x out o r b ns cs after n q g e = act-gives x (offeredAt s a) (priorityAt s a) out r b ns cs after n (rw q at g) e
 
 -- no message is empty, so an answer of 0 says that none was made
 pub made-some : (m : Meaning) → 0 < madeLength (some m)
@@ -132,8 +130,8 @@ made-as-said x s k out e h =
 -- ---- the calls before it
 
 made-after : (s : List ℕ) (l : Lent) (k : ℕ) (out : List ℕ) (at : ℕ) → at ≡ bodyPlace s k → (o : Bench) → o ≡ openingOf s l .bench
-    → (b : Bench) (ns cs : List ℕ) → Leaves (heldAfter (stateOf o (l .names) (l .counts)) (firstCalls s k)) b ns cs → (n : ℕ) (after : List ℕ)
-    → GivesMade (madeBy (actOf (stateOf b ns cs) (offeredAt s at) (priorityAt s at) out .answer .reply)) out n after
+    → (b : Bench) (ns cs : List ℕ) → Leaves (heldAfter (heldWith o (l .names) (l .counts)) (firstCalls s k)) b ns cs → (n : ℕ) (after : List ℕ)
+    → GivesMade (madeBy (actOf (heldWith b ns cs) (offeredAt s at) (priorityAt s at) out .answer .reply)) out n after
     → GivesMade (madeBy (actAfter (openedOn s l) s k out .answer .reply)) out n after
 made-after s l k out at p o e b ns cs f n after g =
     let h : Leaves (heldAfter (openedOn s l) (firstCalls s k)) b ns cs = rw e at f in
@@ -179,7 +177,10 @@ module _ (s : List ℕ) (k : ℕ) (v : Bool) (t : v ≡ noneMade s k freshLists)
         omega arith
 
   pub made-whole : (out : List ℕ) → v ≡ false → (at : ℕ) → at ≡ bodyPlace s k → (o : Bench) → o ≡ openingOf s freshLists .bench
-      → (b : Bench) (ns cs : List ℕ) → Leaves (heldAfter (stateOf o (freshLists .names) (freshLists .counts)) (firstCalls s k)) b ns cs
-      → (n : ℕ) (after : List ℕ) → GivesMade (madeBy (actOf (stateOf b ns cs) (offeredAt s at) (priorityAt s at) out .answer .reply)) out n after
+      → (b : Bench) (q : ℕ) (ns cs mid : List ℕ) → Runs false s k (heldWith o (freshLists .names) (freshLists .counts)) 0 out b q ns cs mid
+      → (n : ℕ) (after : List ℕ) → GivesMade (madeBy (actOf (heldWith b ns cs) (offeredAt s at) (priorityAt s at) mid .answer .reply)) mid n after
       → GivesMade (madeOf s k out) out n after
-  made-whole out e at p o h b ns cs f n after g = rw (made-is out, ← t, e) (made-after s freshLists k out at p o h b ns cs f n after g)
+  made-whole out e at p o h b q ns cs mid f n after g =
+      rw (made-is out, ← t, e)
+      (made-after s freshLists k out at p o h b ns cs (f .leaves) n after
+      (rw (silent s k (heldWith o (freshLists .names) (freshLists .counts)) out b q ns cs mid f) at g))

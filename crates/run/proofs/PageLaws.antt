@@ -10,24 +10,25 @@ use Rattle.message.specs.Numbers.{part, put, bytesFor}
 use Rattle.message.proofs.TestLaws.{or-false, or-true}
 use Rattle.message.proofs.NumberLaws.{length-bytes}
 use Rattle.message.proofs.PartLaws.{length-part}
-use Rattle.agreement.specs.Sets.{member}
-use Rattle.agreement.specs.declared.Agreement.{Agreement}
+use Rattle.agreement.specs.Sets.{member, isYes}
+use Rattle.agreement.specs.Record.{Agreement, agreementFrom}
+use Rattle.agreement.specs.declared.Marks.{Marks}
 use Rattle.agreement.specs.declared.Grade.{Grade}
 use Rattle.agreement.specs.declared.Grade.the-variants.{Longest, Nothing}
 use Rattle.bench.specs.Layout.{Lent}
 use Rattle.bench.specs.Calendar.{Act}
 use Rattle.bench.specs.Calls.{State}
-use Rattle.bench.specs.Answers.{stateOf}
+use Rattle.bench.specs.Answers.{heldWith}
 use Rattle.bench.specs.Readings.{ReadingGives}
 use Rattle.calls.specs.Steps.{Leaves}
-use Rattle.bench.specs.declared.Bench.{Bench}
+use Rattle.bench.specs.Record.{Bench}
 use Rattle.bench.specs.declared.Counted.{Counted}
 use Rattle.run.specs.Roll.{eventsOf, misshapen}
-use Rattle.run.specs.RollSteps.{Puts, Shaped, Few}
+use Rattle.run.specs.RollSteps.{Puts, Shaped, Few, Runs}
 use Rattle.run.specs.Held.{heldAfter, firstCalls, openingOf, openRefuses, heldAt}
 use Rattle.run.specs.Page.{flag, flagsFrom, setBytes, headBytes, setsBytes, slotBytes, gradeBytes, readBytes, pageBytes, pageLength, ReadsNow, GivesPage, scantPage, tooFew, noPage}
 use Rattle.run.proofs.TextLaws.{puts-then, puts-three}
-use Rattle.run.proofs.EventLaws.{leaves-state}
+use Rattle.run.proofs.HeldLaws.{leaves-state, silent}
 use Rattle.run.proofs.RollForm.{shaped}
 
 -- ---- a set
@@ -36,25 +37,28 @@ pub flag-is : (t : Bool) → mir.Val.boolByte t ≡ flag t
 flag-is true = refl
 flag-is false = refl
 
-length-flags : (s : List Bool) (i m : ℕ) → length (flagsFrom s i m) ≡ m
+length-flags : (s : ℕ) (i m : ℕ) → length (flagsFrom s i m) ≡ m
 unfolding flagsFrom
 length-flags s i zero = refl
 length-flags s i (suc m) = ap suc (length-flags s (i + 1) m)
 
-flags-step : (s : List Bool) (i m : ℕ) → 0 < m → flagsFrom s i m ≡ flag (member s i) ∷ flagsFrom s (i + 1) (m - 1)
+flags-step : (s : ℕ) (i m : ℕ) → 0 < m → flagsFrom s i m ≡ flag (member s i) ∷ flagsFrom s (i + 1) (m - 1)
 unfolding flagsFrom
 flags-step s i m h = let e : m ≡ suc (m - 1) = omega arith in ap (flagsFrom s i) e
 
-module _ (z l : List ℕ) (s : List Bool) (p i : ℕ) (e : z ≡ put l p (flagsFrom s i (32 - i))) where
-  pub flag-next : (x : ℕ) → i < 32 → x ≡ flag (member s i) → z ≡ put (set l p x) (p + 1) (flagsFrom s (i + 1) (32 - (i + 1)))
+module _ (z l : List ℕ) (s : ℕ) (p i : ℕ) (e : z ≡ put l p (flagsFrom s i (32 - i))) where
+  pub flag-next : (r : Bool) → i < 32 → r ≡ member s i → z ≡ put (set l p (mir.Val.boolByte r)) (p + 1) (flagsFrom s (i + 1) (32 - (i + 1)))
   unfolding put
-  flag-next x h q = let n : 32 - i - 1 ≡ 32 - (i + 1) = omega arith in e ∙ rw (flags-step s i (32 - i) (omega arith), n, q)
+  flag-next r h q =
+      let n : 32 - i - 1 ≡ 32 - (i + 1) = omega arith in
+      let x : mir.Val.boolByte r ≡ flag (member s i) = flag-is r ∙ ap flag q in
+      e ∙ rw (flags-step s i (32 - i) (omega arith), n, x)
 
   flags-end : 32 ≤ i → l ≡ z
   unfolding put flagsFrom
   flags-end h = let n : 32 - i ≡ 0 = omega arith in sym (e ∙ rw n)
 
-pub set-put : (before l : List ℕ) (s : List Bool) (at p i : ℕ) → put before at (setBytes s) ≡ put l p (flagsFrom s i (32 - i)) → p ≡ at + i → i ≤ 32 → 32 ≤ i
+pub set-put : (before l : List ℕ) (s : ℕ) (at p i : ℕ) → put before at (setBytes s) ≡ put l p (flagsFrom s i (32 - i)) → p ≡ at + i → i ≤ 32 → 32 ≤ i
     → Puts (setBytes s) at before p l
 set-put before l s at p i e q h k = record {
   place = let n = length-flags s 0 32 in omega arith;
@@ -83,26 +87,27 @@ row-put before l row at p i e q h k = record {
   text = row-end (put before at (part row 0 32)) l row p i e k;
 }
 
--- ---- an agreement
+-- ---- an agreement: its numbers first, with no lengths beside them
 
-module _ (g : Agreement) (at : ℕ) (l : List ℕ) (p : ℕ) (m : List ℕ) where
-  pub head-put : (x y : ℕ) → x ≡ flag (g .hasone) → y ≡ flag (g .hastwo)
+module _ (g : Marks) (at : ℕ) (l : List ℕ) (p : ℕ) (m : List ℕ) where
+  pub head-put : (x y : ℕ) → x ≡ flag (isYes (g .one .taken)) → y ≡ flag (isYes (g .two .taken))
       → Puts (g .view % 256 ∷ g .view / 256 % 256 ∷ g .view / 256 / 256 % 256 ∷ g .view / 256 / 256 / 256 % 256 ∷ x ∷ y ∷ []) at l p m
-      → Puts (headBytes g) at l p m
+      → Puts (headBytes (agreementFrom g [])) at l p m
   unfolding headBytes bytesFor
   head-put x y e f h = rw (e, f) at h
 
   module _ (q : ℕ) (o : List ℕ) (r : ℕ) (u : List ℕ) where
-    pub slot-put : Puts (headBytes g) at l p m → Puts (part (g .lengths) 0 32) p m q o → Puts (setsBytes g) q o r u → Puts (slotBytes g) at l r u
-    unfolding slotBytes
-    slot-put a b c = puts-three (headBytes g) (part (g .lengths) 0 32) (setsBytes g) at l p m q o r u a b c
+    pub slot-put : (lengths : List ℕ) → Puts (headBytes (agreementFrom g [])) at l p m → Puts (part lengths 0 32) p m q o
+        → Puts (setsBytes (agreementFrom g [])) q o r u → Puts (slotBytes (agreementFrom g lengths)) at l r u
+    unfolding slotBytes headBytes setsBytes
+    slot-put lengths a b c = puts-three (headBytes (agreementFrom g [])) (part lengths 0 32) (setsBytes (agreementFrom g [])) at l p m q o r u a b c
 
     pub sets-put : (r′ : ℕ) (u′ : List ℕ) → Puts (setBytes (g .voters)) at l p m → Puts (setBytes (g .equivocators)) p m q o
-        → Puts (setBytes (g .one)) q o r u → Puts (setBytes (g .two)) r u r′ u′ → Puts (setsBytes g) at l r′ u′
+        → Puts (setBytes (g .one .senders)) q o r u → Puts (setBytes (g .two .senders)) r u r′ u′ → Puts (setsBytes (agreementFrom g [])) at l r′ u′
     unfolding setsBytes
     sets-put r′ u′ a b c d =
-        puts-then (setBytes (g .voters)) (setBytes (g .equivocators) ++ (setBytes (g .one) ++ setBytes (g .two))) at l p m r′ u′ a
-        (puts-three (setBytes (g .equivocators)) (setBytes (g .one)) (setBytes (g .two)) p m q o r u r′ u′ b c d)
+        puts-then (setBytes (g .voters)) (setBytes (g .equivocators) ++ (setBytes (g .one .senders) ++ setBytes (g .two .senders))) at l p m r′ u′ a
+        (puts-three (setBytes (g .equivocators)) (setBytes (g .one .senders)) (setBytes (g .two .senders)) p m q o r u r′ u′ b c d)
 
 -- ---- what is read
 
@@ -140,7 +145,7 @@ page-length b c = simp (length-append, slot-length, grade-length)
 -- ---- the calls before it
 
 page-given : (s : List ℕ) (l : Lent) (k : ℕ) (o : Bench) → o ≡ openingOf s l .bench → (b : Bench) (ns cs : List ℕ)
-    → Leaves (heldAfter (stateOf o (l .names) (l .counts)) (firstCalls s k)) b ns cs → (c : Counted) → ReadsNow (stateOf b ns cs) c
+    → Leaves (heldAfter (heldWith o (l .names) (l .counts)) (firstCalls s k)) b ns cs → (c : Counted) → ReadsNow (heldWith b ns cs) c
     → (before : List ℕ) (r : ℕ) (after : List ℕ) → Puts (pageBytes b c) 0 before r after → GivesPage false (heldAt s l k) l before r ns cs after
 page-given s l k o e b ns cs f c g before r after p =
     let h : Leaves (heldAt s l k) b ns cs = rw e at f in
@@ -205,7 +210,10 @@ module _ (s : List ℕ) (k : ℕ) (l : Lent) (before : List ℕ) where
           let rest = or-false (misshapen s) (tooFew s k || openRefuses s l) (within .1) .1 in
           ltb-false (eventsOf s) k (or-false (tooFew s k) (openRefuses s l) rest .0)
 
-    pub page-whole : v ≡ false → (o : Bench) → o ≡ openingOf s l .bench → (b : Bench) (ns cs : List ℕ)
-        → Leaves (heldAfter (stateOf o (l .names) (l .counts)) (firstCalls s k)) b ns cs → (c : Counted) → ReadsNow (stateOf b ns cs) c
-        → (r : ℕ) (after : List ℕ) → Puts (pageBytes b c) 0 before r after → GivesPage (noPage s k l before) (heldAt s l k) l before r ns cs after
-    page-whole e o h b ns cs f c g r after p = rw (← t, e) (page-given s l k o h b ns cs f c g before r after p)
+    pub page-whole : v ≡ false → (o : Bench) → o ≡ openingOf s l .bench → (b : Bench) (q : ℕ) (ns cs mid : List ℕ)
+        → Runs false s k (heldWith o (l .names) (l .counts)) 0 before b q ns cs mid → (c : Counted) → ReadsNow (heldWith b ns cs) c
+        → (r : ℕ) (after : List ℕ) → Puts (pageBytes b c) 0 mid r after → GivesPage (noPage s k l before) (heldAt s l k) l before r ns cs after
+    page-whole e o h b q ns cs mid f c g r after p =
+        rw (← t, e)
+        (page-given s l k o h b ns cs (f .leaves) c g before r after
+        (rw (silent s k (heldWith o (l .names) (l .counts)) before b q ns cs mid f) at p))

@@ -15,7 +15,7 @@ use Rattle.message.specs.Logs.{Log, isPrefix, sameLog, inStep, namesOf, countsO
 use Rattle.message.specs.Message.{logMessage, proposalMessage, messageBytes, bytesOf, malformed, readOf, meaningIn}
 use Rattle.message.specs.Store.{logAt}
 use Rattle.message.proofs.TestLaws.{or-true}
-use Rattle.agreement.specs.Sets.{weigh}
+use Rattle.agreement.specs.Sets.{weigh, member, adding, removing}
 use Rattle.agreement.specs.Reading as reading
 use Rattle.agreement.specs.Reading.{maySupport, supports, hasGrade, under, prefixes, candidates, longestOf, longest}
 use Rattle.agreement.specs.Record.{overlong}
@@ -32,7 +32,7 @@ use Rattle.bench.specs.Layout.{outOfRange}
 use Rattle.bench.proofs.Refusals.{open-7}
 use Rattle.run.specs.Roll.{mostRoll, sizesLength, benchesOf, ownOf, rightBody, wrongMark, misfits, misshapen, callAt, callsFrom}
 use Rattle.run.specs.RollText.{noRollText, freshLists, madeText, replyText, lineFor, linesOf, firstLine, openedText, textOf}
-use Rattle.bench.specs.ByRecord.{openOf, beginOf, keptAgreement, keptProposals, receiveOf, actOf, actedOf, candidateOf, lockOf, decisionOf, settled, snappedOne, snappedTwo, changed, fileMessage}
+use Rattle.bench.specs.ByRecord.{openOf, beginOf, keptAgreement, keptProposals, receiveOf, actOf, actedOf, usedOf, settled, snappedBy, changed, fileMessage}
 
 -- ---- which bytes are a roll
 
@@ -173,8 +173,8 @@ pub sample : textOf sampleRoll
     ≡ ascii "bench 0 of 1\nbegin 0 ok\nact proposal 1 0\nbegin 1 ok\nact log 1 0\nbegin 2 ok\nact none 0 0\nbegin 3 ok\nact none 0 0\nbegin 4 ok\nact none 0 0\nbegin 5 ok\nact log 1 0\nbegin 6 ok\nact none 0 1\n"
 unfolding
     textOf openedText firstLine linesOf lineFor replyText madeText digits misshapen misfits wrongMark rightBody callAt callsFrom numberIn openOf
-    beginOf receiveOf readOf malformed meaningIn choice.anyOf actOf actedOf changed snappedOne snappedTwo settled candidateOf lockOf decisionOf fileMessage keptAgreement keptProposals agreementOf
+    beginOf receiveOf readOf malformed meaningIn choice.anyOf actOf actedOf changed snappedBy settled usedOf fileMessage keptAgreement keptProposals agreementOf
     proposalsOf withAgreement anyPlace beyondAgreement beyondProposals beyond propose vote makes voteAmong keptProposal fileProposalOf bestOf gradeAmong
-    fileOf overlong maySupport supports hasGrade under prefixes candidates reading.longer longestOf longest weigh logAt messageBytes
+    fileOf overlong maySupport supports hasGrade under prefixes candidates reading.longer longestOf longest weigh member adding removing logAt messageBytes
     bytesOf part put numberAt numbersAt bytesFor bytesForEach isPrefix sameLog inStep namesOf countsOf
 sample = refl

@@ -5,15 +5,16 @@ use native.Mathlib.Omega.{arith}
 use mathlib.Core.Bool.{Bool}
 use mathlib.Core.List.{List, [], _∷_, _++_, append-assoc}
 use mathlib.Core.Path.{_≡_, refl, sym, ap, _∙_}
-use borrow.Author.Tests.{lt-ltb, le-ltb}
+use borrow.Author.Tests.{lt-ltb, le-ltb, eq-eqb, ne-eqb}
 use lib.ListN.{length, getD, set, drop, length-append}
 use lib.Seq.{drop-cons, drop-length}
 use Rattle.message.specs.Numbers.{put}
 use Rattle.message.proofs.PartLaws.{put-append}
+use Rattle.agreement.specs.Sets.{isYes}
 use Rattle.bench.specs.declared.Made.{Made}
 use Rattle.run.specs.declared.Answered.{Answered}
 use Rattle.run.specs.Texts.{ascii, digits, decimal}
-use Rattle.run.specs.RollText.{firstLine}
+use Rattle.run.specs.RollText.{markText, firstLine}
 use Rattle.run.specs.RollSteps.{actedText, answerText, Puts}
 
 -- ---- a word, byte by byte
@@ -53,6 +54,14 @@ pub puts-answer :
     (d : ℕ) (parted : Bool) (a b : Answered) (at : ℕ) (l : List ℕ) (r : ℕ) (m : List ℕ) → a ≡ b → Puts (answerText d parted b) at l r m
     → Puts (answerText d parted a) at l r m
 puts-answer d parted = puts-by (answerText d parted)
+
+-- the mark, of a flag that is a number
+module _ (x at : ℕ) (l : List ℕ) (r : ℕ) (m : List ℕ) where
+  pub puts-marked : (x ≡ 0 → ⊥) → Puts (ascii " parted\n") at l r m → Puts (markText (isYes x) ++ ascii "\n") at l r m
+  puts-marked e p = rw (ne-eqb x 0 e) p
+
+  pub puts-unmarked : x ≡ 0 → Puts (ascii "\n") at l r m → Puts (markText (isYes x) ++ ascii "\n") at l r m
+  puts-unmarked e p = rw (eq-eqb x 0 e) p
 
 module _ (xs ys zs : List ℕ) (at : ℕ) (l : List ℕ) (p : ℕ) (m : List ℕ) (q : ℕ) (o : List ℕ) (r : ℕ) (u : List ℕ) where
   pub puts-three : Puts xs at l p m → Puts ys p m q o → Puts zs q o r u → Puts (xs ++ (ys ++ zs)) at l r u

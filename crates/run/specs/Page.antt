@@ -9,16 +9,15 @@ use lib.ListN.{length}
 use Rattle.message.specs.Choice.{pick}
 use Rattle.message.specs.Numbers.{part, put, bytesFor}
 use Rattle.agreement.specs.Limits.{mostSenders}
-use Rattle.agreement.specs.Sets.{share, member}
-use Rattle.agreement.specs.declared.Agreement.{Agreement}
+use Rattle.agreement.specs.Sets.{share, member, isYes}
+use Rattle.agreement.specs.Record.{Agreement}
 use Rattle.agreement.specs.declared.Grade.{Grade}
 use Rattle.agreement.specs.declared.Grade.the-variants.{Longest, Nothing}
 use Rattle.bench.specs.Layout.{Lent}
 use Rattle.bench.specs.Calendar.{viewOf, placeIn, actAt}
 use Rattle.bench.specs.Calls.{State}
-use Rattle.bench.specs.Record.{beatOf}
+use Rattle.bench.specs.Record.{beatOf, Bench}
 use Rattle.bench.specs.Readings.{ReadingGives}
-use Rattle.bench.specs.declared.Bench.{Bench}
 use Rattle.bench.specs.declared.Counted.{Counted}
 use Rattle.run.specs.Roll.{eventsOf, misshapen}
 use Rattle.run.specs.Held.{openRefuses}
@@ -29,21 +28,22 @@ abbrev pub flag : Bool → ℕ
 flag t = share t 1
 
 -- of the m senders from number i on: who is in the set
-unfoldable pub flagsFrom : List Bool → ℕ → ℕ → List ℕ
+unfoldable pub flagsFrom : ℕ → ℕ → ℕ → List ℕ
 flagsFrom set i zero = []
 flagsFrom set i (suc m) = flag (member set i) ∷ flagsFrom set (i + 1) m
 
 -- a set of senders, by their numbers
-abbrev pub setBytes : List Bool → List ℕ
+abbrev pub setBytes : ℕ → List ℕ
 setBytes set = flagsFrom set 0 mostSenders
 
 -- the view in four bytes, lowest first; whether each snapshot was taken
 unfoldable pub headBytes : Agreement → List ℕ
-headBytes g = bytesFor 4 (g .view) ++ (flag (g .hasone) ∷ flag (g .hastwo) ∷ [])
+headBytes g = bytesFor 4 (g .marks .view) ++ (flag (isYes (g .marks .one .taken)) ∷ flag (isYes (g .marks .two .taken)) ∷ [])
 
 -- V; E; snapshot one; snapshot two
 unfoldable pub setsBytes : Agreement → List ℕ
-setsBytes g = setBytes (g .voters) ++ (setBytes (g .equivocators) ++ (setBytes (g .one) ++ setBytes (g .two)))
+setsBytes g =
+    setBytes (g .marks .voters) ++ (setBytes (g .marks .equivocators) ++ (setBytes (g .marks .one .senders) ++ setBytes (g .marks .two .senders)))
 
 -- between them the blocks of each sender's log
 unfoldable pub slotBytes : Agreement → List ℕ

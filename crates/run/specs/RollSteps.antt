@@ -1,14 +1,17 @@
 -- What the inner functions of the roll's text ask and give: no reader needs it to believe the text. Assumes nothing.
-use Prim.Native.Nat.{ℕ, _+_, _*_, _≤_, _<_}
-use mathlib.Core.Bool.{Bool, false, _||_}
-use mathlib.Core.List.{List, _++_}
+use Prim.Native.Nat.{ℕ, _+_, _-_, _*_, _≤_, _<_}
+use mathlib.Core.Bool.{Bool, true, false, _||_}
+use mathlib.Core.List.{List, [], _++_}
 use mathlib.Core.Path.{_≡_}
 use lib.ListN.{length}
 use Rattle.message.specs.Limits.{headLength, blockWidth}
+use Rattle.message.specs.Choice.{pick}
 use Rattle.message.specs.Numbers.{put}
 use Rattle.agreement.specs.Limits.{mostSenders}
+use Rattle.agreement.specs.Sets.{isYes}
 use Rattle.bench.specs.Layout.{Lent}
 use Rattle.bench.specs.Calls.{Call, State}
+use Rattle.bench.specs.Record.{Bench}
 use Rattle.calls.specs.Steps.{Leaves}
 use Rattle.bench.specs.declared.Start.{Start}
 use Rattle.bench.specs.declared.Start.the-variants as starts
@@ -19,12 +22,11 @@ use Rattle.bench.specs.declared.Made.the-variants as makings
 use Rattle.bench.specs.declared.Counted.{Counted}
 use Rattle.run.specs.declared.Answered.{Answered}
 use Rattle.run.specs.declared.Answered.the-variants as answers
-use Rattle.run.specs.declared.Called.{Called}
 use Rattle.run.specs.declared.Offer.{Offer}
 use Rattle.run.specs.Texts.{ascii, decimal}
-use Rattle.run.specs.Roll.{mostRoll, mostEvents, sizesLength, eventsOf, markPlace, lengthAt, bodiesPlace, misfits, misshapen, offeredAt, priorityAt}
-use Rattle.run.specs.RollText.{markText, lineOf, stepOf}
-use Rattle.run.specs.Held.{openRefuses}
+use Rattle.run.specs.Roll.{mostRoll, mostEvents, sizesLength, eventsOf, markPlace, lengthAt, bodiesPlace, misfits, misshapen, offeredAt, priorityAt, callsFrom}
+use Rattle.run.specs.RollText.{markText, lineOf, linesOf, stepOf}
+use Rattle.run.specs.Held.{openRefuses, heldAfter, firstCalls}
 use Rattle.run.specs.MadeBytes.{noAct}
 
 -- the bytes that a line is given room for
@@ -77,9 +79,39 @@ pub record Remains (z : List ℕ) (r : ℕ) (text : List ℕ) (p : ℕ) (xs : Li
 -- ---- what is called
 
 -- the call c was made on x: it left record and lists so, and its line is that of the answer
-pub record EventGives (c : Call) (x : State) (r : Called) (names counts : List ℕ) : Type 0 where
-  pub leaves : Leaves (stepOf x c .held) (r .bench) names counts
-  pub line : answerText (r .bench .decided) (r .bench .parted) (r .answer) ≡ lineOf c (stepOf x c)
+pub record EventGives (c : Call) (x : State) (a : Answered) (b : Bench) (names counts : List ℕ) : Type 0 where
+  pub leaves : Leaves (stepOf x c .held) b names counts
+  pub line : answerText (b .decided) (isYes (b .parted)) a ≡ lineOf c (stepOf x c)
+
+-- ---- the first k calls of a roll s, made on x; the lines are written from place `at` on where they are asked for
+
+-- what is written of xs
+abbrev pub told : Bool → List ℕ → List ℕ
+told prints xs = pick prints xs []
+
+-- room for a line, and the line within it
+pub record LineFits (prints : Bool) (p : ℕ) (text : List ℕ) : Type 0 where
+  pub room : prints ≡ true → p + lineRoom ≤ length text
+
+pub record LineEnds (prints : Bool) (p q : ℕ) : Type 0 where
+  pub short : prints ≡ true → q ≤ p + lineRoom
+
+-- room for the lines of the events from event i on
+pub record LinesFit (prints : Bool) (i p : ℕ) (text : List ℕ) : Type 0 where
+  pub low : prints ≡ true → p ≤ lineRoom * (i + 1)
+  pub long : prints ≡ true → mostRoll ≤ length text
+
+-- made: record, lists and text are left so, and the text ends at r
+pub record Runs (prints : Bool) (s : List ℕ) (k : ℕ) (x : State) (at : ℕ) (before : List ℕ) (b : Bench) (r : ℕ) (names counts after : List ℕ) : Type 0 where
+  pub leaves : Leaves (heldAfter x (firstCalls s k)) b names counts
+  pub lines : Puts (told prints (linesOf x (firstCalls s k))) at before r after
+  pub short : prints ≡ true → r ≤ mostRoll
+
+-- what is left of it before event i, whose body starts at place a: made on y and written from place p on, it comes to the same
+pub record Ahead (prints : Bool) (s : List ℕ) (k : ℕ) (x : State) (at : ℕ) (before : List ℕ) (i a : ℕ) (y : State) (p : ℕ) (text : List ℕ) : Type 0 where
+  pub held : heldAfter x (firstCalls s k) ≡ heldAfter y (callsFrom s i a (k - i))
+  pub lines : Remains (put before at (told prints (linesOf x (firstCalls s k)))) (at + length (told prints (linesOf x (firstCalls s k))))
+      text p (told prints (linesOf y (callsFrom s i a (k - i))))
 
 -- ---- what is read
 

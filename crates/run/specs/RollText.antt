@@ -10,6 +10,7 @@ use lib.ListN.{length, replicate}
 use Rattle.message.specs.Choice.{pick}
 use Rattle.message.specs.Numbers.{put}
 use Rattle.message.specs.Message.{Meaning, logMessage, proposalMessage}
+use Rattle.agreement.specs.Sets.{isYes}
 use Rattle.agreement.specs.Filing.{Word, first, second, known}
 use Rattle.bench.specs.Layout.{Lent, leastLent}
 use Rattle.bench.specs.Terms.{Terms, Seat}
@@ -58,7 +59,7 @@ unfoldable pub lineFor : Call → Reply → ℕ → Bool → List ℕ
 lineFor c r d parted = callText c ++ (ascii " " ++ (replyText r d parted ++ ascii "\n"))
 
 abbrev pub lineOf : Call → Step → List ℕ
-lineOf c t = lineFor c (t .answer .reply) (t .held .bench .decided) (t .held .bench .parted)
+lineOf c t = lineFor c (t .answer .reply) (t .held .bench .decided) (isYes (t .held .bench .parted))
 
 -- ---- the lines, a call after the other: a refusal does not end the run
 

@@ -1,7 +1,8 @@
 // One event of a roll: its call is made.
 ghost use mathlib.Core.Path.{_≡_};
 ghost use Prim.Native.Nat.{_<_};
-ghost use Rattle.bench.specs.Answers.{stateOf};
+ghost use Rattle.bench.specs.Record.{benchFrom};
+ghost use Rattle.bench.specs.Answers.{heldWith};
 ghost use Rattle.run.specs.Roll.{callAt};
 ghost use Rattle.run.specs.RollSteps.{offerAt, Lies, EventGives};
 use super::Answered;
@@ -12,8 +13,9 @@ use super::Offer;
 use super::RECEIVE_KIND;
 use super::SIZES_LENGTH;
 use super::form::length_at;
-use bench::Bench;
+use bench::Head;
 use bench::MOST_BYTES;
+use calls::parts;
 use message::number::u16_in;
 use message::number::u32_in;
 use message::number::u64_in;
@@ -32,7 +34,11 @@ pub(crate) fn offer_in(roll: &[u8], at: usize) -> Offer
 
 // Event i, whose body starts at this place.
 pub(crate) fn call_event(
-    b: Bench,
+    h: Head,
+    even: &mut [u8; 32],
+    odd: &mut [u8; 32],
+    proposed: &mut [u8; 32],
+    priorities: &mut [u64; 32],
     names: &mut [u64],
     counts: &mut [u16],
     roll: &[u8],
@@ -40,33 +46,48 @@ pub(crate) fn call_event(
     at: usize,
 ) -> Called
     requires { ⌜ Lies (now roll) i at ⌝ }
-    ensures { λ r. ⌜ EventGives (callAt (now (roll .entry)) i at) (stateOf b (now (names .entry)) (now (counts .entry))) r (now (names .exit)) (now (counts .exit)) ⌝ }
+    ensures { λ r. ⌜ EventGives (callAt (now (roll .entry)) i at)
+        (heldWith (benchFrom h (now (even .entry)) (now (odd .entry)) (now (proposed .entry)) (now (priorities .entry))) (now (names .entry)) (now (counts .entry)))
+        (r .answer) (benchFrom (r .head) (now (even .exit)) (now (odd .exit)) (now (proposed .exit)) (now (priorities .exit))) (now (names .exit)) (now (counts .exit)) ⌝ }
 {
     let kind = roll[SIZES_LENGTH + MARK_LENGTH * i];
     if kind == BEGIN_KIND {
         let beat = u32_in(roll, at);
-        let started = calls::begin(b, names, counts, beat);
+        let started = parts::begin(h, even, odd, proposed, priorities, names, counts, beat);
         let start = started.answer;
-        let bench = started.bench;
+        let head = started.head;
         return Called {
             answer: Answered::Begun(beat, start),
-            bench,
+            head,
         };
     }
     if kind == RECEIVE_KIND {
         let end = at + length_at(roll, i);
-        let received = calls::receive(b, names, counts, &roll[at..end]);
+        let received = parts::receive(
+            h,
+            even,
+            odd,
+            proposed,
+            priorities,
+            names,
+            counts,
+            &roll[at..end],
+        );
         let taken = received.answer;
-        let bench = received.bench;
+        let head = received.head;
         return Called {
             answer: Answered::Taken(taken),
-            bench,
+            head,
         };
     }
     let offer = offer_in(roll, at);
     let mut out = [0; MOST_BYTES];
-    let acted = calls::act(
-        b,
+    let acted = parts::act(
+        h,
+        even,
+        odd,
+        proposed,
+        priorities,
         names,
         counts,
         &mut out,
@@ -75,9 +96,9 @@ pub(crate) fn call_event(
         offer.priority,
     );
     let made = acted.answer;
-    let bench = acted.bench;
+    let head = acted.head;
     Called {
         answer: Answered::Acted(made),
-        bench,
+        head,
     }
 }

@@ -1,43 +1,75 @@
-// The events of a roll: each call is made, and its line written.
+// The events of a roll: each call is made, and its line written where lines are asked for. Text, page and made message go through this
+// one loop.
 ghost use Prim.Native.Nat.{_≤_};
-ghost use lib.ListN.{length};
+ghost use Rattle.bench.specs.Record.{benchOf};
 ghost use Rattle.bench.specs.Answers.{stateOf};
-ghost use Rattle.run.specs.Roll.{mostRoll, callsOf};
-ghost use Rattle.run.specs.RollText.{linesOf};
-ghost use Rattle.run.specs.RollSteps.{lineRoom, Puts, Shaped};
+ghost use Rattle.run.specs.Roll.{eventsOf};
+ghost use Rattle.run.specs.RollSteps.{Shaped, LinesFit, Runs};
 use super::MARK_LENGTH;
 use super::SIZES_LENGTH;
 use super::calling::call_event;
 use super::form::events_of;
 use super::form::length_at;
-use super::lines::put_line;
+use super::lines::tell;
 use bench::Bench;
 
-// The events, one after the other; where the text ends.
-pub(crate) fn print_events(
+// The record after the calls, and where the text ends.
+pub(crate) struct Ran {
+    pub(crate) bench: Bench,
+    pub(crate) end: usize,
+}
+
+// The first calls, one after the other.
+pub(crate) fn run_events(
     bench: Bench,
     names: &mut [u64],
     counts: &mut [u16],
     roll: &[u8],
+    calls: usize,
     text: &mut [u8],
     at: usize,
-) -> usize
-    requires { ⌜ (at ≤ lineRoom) × ((mostRoll ≤ length (now text)) × Shaped (now roll)) ⌝ }
-    ensures { λ r. ⌜ Puts (linesOf (stateOf bench (now (names .entry)) (now (counts .entry))) (callsOf (now (roll .entry)))) at (now (text .entry)) r (now (text .exit)) ⌝ }
-    ensures { λ r. ⌜ r ≤ mostRoll ⌝ }
+    prints: bool,
+) -> Ran
+    requires { ⌜ (Shaped (now roll) × (calls ≤ eventsOf (now roll))) × LinesFit prints 0 at (now text) ⌝ }
+    ensures { λ r. ⌜ Runs prints (now (roll .entry)) calls (stateOf bench (now (names .entry)) (now (counts .entry))) at (now (text .entry))
+        (benchOf (r .bench)) (r .end) (now (names .exit)) (now (counts .exit)) (now (text .exit)) ⌝ }
 {
     let events = events_of(roll);
     let mut body = SIZES_LENGTH + MARK_LENGTH * events;
-    let mut b = bench;
+    let mut head = bench.head;
+    let mut even = bench.even;
+    let mut odd = bench.odd;
+    let mut proposed = bench.proposed;
+    let mut priorities = bench.priorities;
     let mut p = at;
     let mut i = 0;
-    while i < events {
-        let called = call_event(b, names, counts, roll, i, body);
+    while i < calls {
+        let called = call_event(
+            head,
+            &mut even,
+            &mut odd,
+            &mut proposed,
+            &mut priorities,
+            names,
+            counts,
+            roll,
+            i,
+            body,
+        );
         let answer = called.answer;
-        b = called.bench;
-        p = put_line(text, p, answer, b.decided, b.parted);
+        head = called.head;
+        p = tell(text, p, prints, answer, head.decided, head.parted);
         body += length_at(roll, i);
         i += 1;
     }
-    p
+    Ran {
+        bench: Bench {
+            priorities,
+            head,
+            even,
+            odd,
+            proposed,
+        },
+        end: p,
+    }
 }

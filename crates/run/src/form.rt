@@ -3,7 +3,8 @@ ghost use mathlib.Core.Path.{_≡_};
 ghost use Prim.Native.Nat.{_≤_, _<_};
 ghost use lib.ListN.{length};
 ghost use Rattle.run.specs.Roll.{mostEvents, eventsOf, lengthAt, rightBody, wrongMark, misfits, misshapen, bodiesPlace};
-ghost use Rattle.run.specs.RollSteps.{Marked};
+ghost use Rattle.run.specs.Held.{bodyPlace};
+ghost use Rattle.run.specs.RollSteps.{Marked, Shaped};
 use super::ACT_KIND;
 use super::BEGIN_KIND;
 use super::MARK_LENGTH;
@@ -75,4 +76,18 @@ pub(crate) fn is_misshapen(roll: &[u8]) -> bool
         return true;
     }
     is_misfit(roll, events)
+}
+
+// Where the body of this event starts.
+pub(crate) fn body_place(roll: &[u8], event: usize) -> usize
+    requires { ⌜ Shaped (now roll) × (event ≤ eventsOf (now roll)) ⌝ }
+    ensures { λ r. ⌜ (r ≡ bodyPlace (now (roll .entry)) event) × (r < 4294967296) ⌝ }
+{
+    let mut at = SIZES_LENGTH + MARK_LENGTH * events_of(roll);
+    let mut i = 0;
+    while i < event {
+        at += length_at(roll, i);
+        i += 1;
+    }
+    at
 }

@@ -4,7 +4,6 @@
 mod calling;
 mod events;
 mod form;
-mod held;
 mod lines;
 mod made;
 mod opening;
@@ -18,15 +17,15 @@ ghost use Rattle.run.specs.Held.{heldAt};
 ghost use Rattle.run.specs.Page.{noPage, GivesPage};
 ghost use Rattle.run.specs.MadeBytes.{madeOf, GivesMade};
 use agreement::MOST_SENDERS;
-use bench::Bench;
+use bench::Head;
 use bench::LEAST_LENT;
 use bench::Made;
 use bench::Start;
 use bench::Taken;
-use events::print_events;
+use events::run_events;
+use form::body_place;
+use form::events_of;
 use form::is_misshapen;
-use held::body_place;
-use held::run_events;
 use lines::put_first_line;
 use lines::put_no_roll;
 use made::act_in;
@@ -60,7 +59,7 @@ pub struct Offer {
     pub count: u16,
 }
 
-// What the call of an event answered, Begin's with the beat asked for; and the record afterwards.
+// What the call of an event answered, Begin's with the beat asked for; and the record's head afterwards.
 pub enum Answered {
     Begun(u32, Start),
     Taken(Taken),
@@ -69,7 +68,7 @@ pub enum Answered {
 
 pub struct Called {
     pub answer: Answered,
-    pub bench: Bench,
+    pub head: Head,
 }
 
 // The text of a roll, at the front of the lent buffer, and how many bytes it has. A buffer shorter than the longest roll is left as
@@ -90,7 +89,9 @@ pub fn roll_text(roll: &[u8], text: &mut [u8]) -> usize
     }
     let bench = opened(roll, &names, &counts);
     let p = put_first_line(text, roll);
-    print_events(bench, &mut names, &mut counts, roll, text, p)
+    let events = events_of(roll);
+    let ran = run_events(bench, &mut names, &mut counts, roll, events, text, p, true);
+    ran.end
 }
 
 // The page of a roll, at the front of the lent buffer, and its length: what the bench holds after the first calls, made on the lent
@@ -109,7 +110,8 @@ pub fn roll_page(
         return 0;
     }
     let bench = opened(roll, names, counts);
-    let held = run_events(bench, names, counts, roll, calls);
+    let ran = run_events(bench, names, counts, roll, calls, page, 0, false);
+    let held = ran.bench;
     let read = calls::reading(held, names, counts);
     put_page(page, held, read)
 }
@@ -128,6 +130,7 @@ pub fn roll_made(roll: &[u8], event: usize, out: &mut [u8]) -> usize
     }
     let at = body_place(roll, event);
     let bench = opened(roll, &names, &counts);
-    let held = run_events(bench, &mut names, &mut counts, roll, event);
+    let ran = run_events(bench, &mut names, &mut counts, roll, event, out, 0, false);
+    let held = ran.bench;
     act_in(held, &mut names, &mut counts, roll, at, out)
 }

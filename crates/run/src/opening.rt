@@ -1,5 +1,6 @@
 // The bench of a roll, opened on the lent lists.
 ghost use mathlib.Core.Path.{_≡_};
+ghost use Rattle.bench.specs.Record.{benchOf};
 ghost use Rattle.bench.specs.Answers.{lentAs};
 ghost use Rattle.run.specs.RollSteps.{Shaped};
 ghost use Rattle.run.specs.Held.{openingOf, openRefuses};
@@ -22,7 +23,7 @@ pub(crate) fn is_shut(roll: &[u8], names: &[u64], counts: &[u16]) -> bool
 // Its record.
 pub(crate) fn opened(roll: &[u8], names: &[u64], counts: &[u16]) -> Bench
     requires { ⌜ Shaped (now roll) ⌝ }
-    ensures { λ r. ⌜ r ≡ openingOf (now (roll .entry)) (lentAs (now (names .entry)) (now (counts .entry))) .bench ⌝ }
+    ensures { λ r. ⌜ benchOf r ≡ openingOf (now (roll .entry)) (lentAs (now (names .entry)) (now (counts .entry))) .bench ⌝ }
 {
     let started = calls::open(roll[0], roll[1], names, counts);
     started.bench

@@ -5,8 +5,9 @@ use mathlib.Core.Path.{_≡_, _∙_, ap, sym}
 use Rattle.message.specs.Logs.{Block}
 use Rattle.bench.specs.Calls.{Answer, State, Step}
 use Rattle.bench.specs.ByRecord.{beginOf, receiveOf, actOf}
-use Rattle.bench.specs.Answers.{stateOf, startReply, takenReply, madeReply, BeginGives, ReceiveGives, ActGives}
+use Rattle.bench.specs.Answers.{heldWith, stateOf, startReply, takenReply, madeReply, BeginGives, ReceiveGives, ActGives}
 use Rattle.bench.proofs.Buffer.{begin-out, receive-out}
+use Rattle.bench.specs.Record.{benchOf}
 use Rattle.bench.specs.declared.Bench.{Bench}
 use Rattle.bench.specs.declared.Start.{Start}
 use Rattle.bench.specs.declared.Taken.{Taken}
@@ -25,17 +26,17 @@ module _ (x : State) (beat : ℕ) (message : List ℕ) (block : Block) (priority
   acted s = actOf s block priority out
 
   pub gathered :
-      BeginGives begun (record { answer = r₁; bench = h₁ }) ns₁ cs₁
-      → ReceiveGives (received (stateOf h₁ ns₁ cs₁)) (record { answer = r₂; bench = h₂ }) ns₂ cs₂
-      → ActGives (acted (stateOf h₂ ns₂ cs₂)) (record { answer = r₃; bench = h₃ }) ns₃ cs₃ left
+      BeginGives begun r₁ (benchOf h₁) ns₁ cs₁
+      → ReceiveGives (received (stateOf h₁ ns₁ cs₁)) r₂ (benchOf h₂) ns₂ cs₂
+      → ActGives (acted (stateOf h₂ ns₂ cs₂)) r₃ (benchOf h₃) ns₃ cs₃ left
       → GatheringGives x (gatheringOf beat message block priority out) (record { started = r₁; taken = r₂; made = r₃; bench = h₃ }) ns₃ cs₃ left
   unfolding runs answers
   gathered b r a =
-      let one : stateOf h₁ ns₁ cs₁ ≡ begun .held = λ i. stateOf (b .bench i) (b .nameList i) (b .countList i) in
+      let one : stateOf h₁ ns₁ cs₁ ≡ begun .held = λ i. heldWith (b .bench i) (b .nameList i) (b .countList i) in
       let two : stateOf h₂ ns₂ cs₂ ≡ received (begun .held) .held =
-      (λ i. stateOf (r .bench i) (r .nameList i) (r .countList i)) ∙ ap (λ (s : State). received s .held) one in
+      (λ i. heldWith (r .bench i) (r .nameList i) (r .countList i)) ∙ ap (λ (s : State). received s .held) one in
       let three : stateOf h₃ ns₃ cs₃ ≡ acted (received (begun .held) .held) .held =
-      (λ i. stateOf (a .bench i) (a .nameList i) (a .countList i)) ∙ ap (λ (s : State). acted s .held) two in
+      (λ i. heldWith (a .bench i) (a .nameList i) (a .countList i)) ∙ ap (λ (s : State). acted s .held) two in
       let started : _≡_ {A = Answer} (record { reply = startReply r₁; out = [] }) (begun .answer) =
       λ i. record { reply = b .answered i; out = sym (begin-out x beat) i } in
       let taken : _≡_ {A = Answer} (record { reply = takenReply r₂; out = [] }) (received (begun .held) .answer) =

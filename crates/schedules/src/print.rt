@@ -32,8 +32,8 @@ fn say_act(made: &[u8], blocks: u8, bench: Bench) {
     say(made);
     say_number(blocks as u64);
     say(b" ");
-    say_number(bench.decided as u64);
-    if bench.parted {
+    say_number(bench.head.decided as u64);
+    if bench.head.parted != 0 {
         say(b" parted");
     }
 }

@@ -2,12 +2,12 @@
 use super::log::front;
 use super::log::log_bytes;
 use super::log::proposal_bytes;
-use agreement::Agreement;
 use agreement::Answer;
 use agreement::Choice;
 use agreement::Grade;
-use agreement::Proposals;
+use agreement::Marks;
 use agreement::SPAN;
+use agreement::Shown;
 use agreement::filing;
 use agreement::grading;
 use agreement::proposing;
@@ -21,23 +21,18 @@ const LOCK: u8 = 32;
 
 const PLACES: usize = SPAN + MOST_BLOCKS;
 
-// The agreement and the proposals, the answer to the last message, the number of the lock's blocks, and the lists.
+// The lists, the agreement and the blocks of its logs, the proposals with their blocks and priorities, the answer to the last
+// message, and the number of the lock's blocks.
 pub(crate) struct Row {
-    agreement: Agreement,
-    proposals: Proposals,
-    answer: Answer,
-    lock: u8,
     names: [u64; PLACES],
     counts: [u16; PLACES],
-}
-
-// The longest log with this grade.
-fn longest(g: Agreement, names: &[u64], counts: &[u16], grade: u8) -> Grade {
-    match grade {
-        0 => grading::zero(g, names, counts, 0),
-        1 => grading::one(g, names, counts, 0),
-        _ => grading::two(g, names, counts, 0),
-    }
+    marks: Marks,
+    lengths: [u8; 32],
+    shown: Shown,
+    proposed: [u8; 32],
+    priorities: [u64; 32],
+    answer: Answer,
+    lock: u8,
 }
 
 fn say_answer(answer: Answer) {
@@ -55,43 +50,62 @@ fn say_byte(b: u8) {
 impl Row {
     pub(crate) fn empty() -> Row {
         Row {
-            agreement: agreement::empty(0),
-            proposals: proposing::empty(0),
-            answer: Answer::Known,
-            lock: 0,
             names: [0; PLACES],
             counts: [0; PLACES],
+            marks: agreement::empty(0),
+            lengths: [0; 32],
+            shown: proposing::empty(0),
+            proposed: [0; 32],
+            priorities: [0; 32],
+            answer: Answer::Known,
+            lock: 0,
         }
     }
 
     // ---- the clauses that do something
 
     fn send(self, c: Clause) -> Row {
-        let g = self.agreement;
+        let mut lengths = self.lengths;
         let mut names = self.names;
         let mut counts = self.counts;
         let bytes = log_bytes(c);
-        let filed = filing::file(g, &mut names, &mut counts, 0, front(&bytes, c), c.byte(0));
-        let agreement = filed.agreement;
-        let proposals = self.proposals;
+        let filed = filing::file(
+            self.marks,
+            &mut lengths,
+            &mut names,
+            &mut counts,
+            0,
+            front(&bytes, c),
+            c.byte(0),
+        );
         let answer = filed.answer;
+        let marks = filed.marks;
+        let shown = self.shown;
+        let proposed = self.proposed;
+        let priorities = self.priorities;
         Row {
-            agreement,
-            proposals,
-            answer,
-            lock: self.lock,
             names,
             counts,
+            marks,
+            lengths,
+            shown,
+            proposed,
+            priorities,
+            answer,
+            lock: self.lock,
         }
     }
 
     fn propose(self, c: Clause) -> Row {
-        let g = self.proposals;
+        let mut proposed = self.proposed;
+        let mut priorities = self.priorities;
         let mut names = self.names;
         let mut counts = self.counts;
         let bytes = proposal_bytes(c);
         let filed = proposing::file(
-            g,
+            self.shown,
+            &mut proposed,
+            &mut priorities,
             &mut names,
             &mut counts,
             0,
@@ -99,16 +113,20 @@ impl Row {
             c.byte(0),
             c.number(b'y'),
         );
-        let agreement = self.agreement;
-        let proposals = filed.proposals;
         let answer = filed.answer;
+        let shown = filed.marks;
+        let marks = self.marks;
+        let lengths = self.lengths;
         Row {
-            agreement,
-            proposals,
-            answer,
-            lock: self.lock,
             names,
             counts,
+            marks,
+            lengths,
+            shown,
+            proposed,
+            priorities,
+            answer,
+            lock: self.lock,
         }
     }
 
@@ -126,11 +144,10 @@ impl Row {
     // A LOG, snapshot one or snapshot two.
     fn send_or_snap(self, c: Clause) -> Row {
         let mut row = self;
-        let g = self.agreement;
         let mark = c.mark;
         match mark {
-            b'e' => row.agreement = agreement::snap_one(g),
-            b'o' => row.agreement = agreement::snap_two(g),
+            b'e' => row.marks = agreement::snap(self.marks, false),
+            b'o' => row.marks = agreement::snap(self.marks, true),
             _ => row = self.send(c),
         }
         row
@@ -173,10 +190,10 @@ impl Row {
     }
 
     fn say_grade(self, grade: u8) {
-        let g = self.agreement;
+        let lengths = self.lengths;
         let names = self.names;
         let counts = self.counts;
-        let found = longest(g, &names, &counts, grade);
+        let found = grading::grade(self.marks, &lengths, &names, &counts, 0, grade);
         match found {
             Grade::Longest(sender, blocks) => self.say_log(sender, blocks),
             Grade::Nothing => say(b"none"),
@@ -185,20 +202,29 @@ impl Row {
 
     // Sender i and the log of its proposal.
     fn say_proposal(self, i: u8) {
-        let g = self.proposals;
         say_number(i as u64);
         say_byte(b' ');
         if i < LOCK {
-            self.say_log(i, g.lengths[i as usize]);
+            self.say_log(i, self.proposed[i as usize]);
         }
     }
 
     // Whose proposal is voted for, or the lock, and the log of the vote.
     fn say_vote(self) {
-        let g = self.proposals;
+        let proposed = self.proposed;
+        let priorities = self.priorities;
         let names = self.names;
         let counts = self.counts;
-        let choice = proposing::choose(g, &names, &counts, 0, SPAN, self.lock as usize);
+        let choice = proposing::choose(
+            self.shown,
+            &proposed,
+            &priorities,
+            &names,
+            &counts,
+            0,
+            SPAN,
+            self.lock as usize,
+        );
         match choice {
             Choice::Proposal(i) => self.say_proposal(i),
             Choice::Lock => {

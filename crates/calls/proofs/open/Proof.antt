@@ -2,6 +2,11 @@ use Rattle.calls.proofs.CallCases.{open-by-7, open-by-8, opened}
 use borrow.Author.Needs.{needs}
 use Rattle.calls.proofs.open.Statement.{statement}
 use Rattle.calls.proofs.open.Tie as tie
+use Rattle.calls.proofs.open.Reads as reads
+use Rattle.calls.proofs.open.Lts as lts
+use Rattle.calls.proofs.limits.is_out_of_range.Reads as is-out-of-range-reads
+use Rattle.calls.proofs.limits.is_short.Reads as is-short-reads
+use Rattle.calls.proofs.record.fresh.Reads as fresh-reads
 
 is-out-of-range-requires : tie.Need-is-out-of-range-requires
 is-out-of-range-requires c κs = search needs

@@ -37,6 +37,7 @@ use denote.Triple.Entry.{onEntry}
 use denote.Triple.Spec.{Meets, tripleOf}
 use denote.Triple.Table.{entered, cited}
 use denote.Triple.Walked.{says, Stays, stay-ref, gave-slice, stay-dropped, walkOf, AllGo, goes-ref, goes-gave-slice, goes-dropped, Walks, ends-at, walked, walk-meets}
+use Rattle.bench.specs.Record.{benchOf}
 use Rattle.bench.specs.ByRecord.{actOf}
 use Rattle.bench.specs.Answers.{stateOf, ActGives}
 use Rattle.bench.specs.declared.Bench.{Bench}
@@ -102,7 +103,7 @@ module _ {M : Type 1} (𝓤 : URA M) (H : Heap 𝓤) (A : Atoms 𝓤) (W : Given
   qs = (q, (q₁, (q₂, (q₃, tt))))
 
   abbrev Does : Acted → List ℕ → List ℕ → List ℕ → Type 0
-  Does r ns cs os = ActGives (actOf (stateOf h (x₁ .now) (x₂ .now)) (record { name = x₄; count = x₅ }) x₆ (x₃ .now)) r ns cs os
+  Does r ns cs os = ActGives (actOf (stateOf h (x₁ .now) (x₂ .now)) (record { name = x₄; count = x₅ }) x₆ (x₃ .now)) (r .answer) (benchOf (r .bench)) ns cs os
 
   abbrev Post : Val → SProp 𝓤
   Post = walkOf 𝓤 H A here.ended stayed (here.clauses 𝓤 H A at-mem run) .post ((κs, qs, tt, passed, at), tt)

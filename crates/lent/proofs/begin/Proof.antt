@@ -37,6 +37,7 @@ use denote.Triple.Entry.{onEntry}
 use denote.Triple.Spec.{Meets, tripleOf}
 use denote.Triple.Table.{entered, cited}
 use denote.Triple.Walked.{says, Stays, stay-ref, stay-dropped, walkOf, AllGo, goes-ref, goes-dropped, Walks, ends-at, walked, walk-meets}
+use Rattle.bench.specs.Record.{benchOf}
 use Rattle.bench.specs.ByRecord.{beginOf}
 use Rattle.bench.specs.Answers.{stateOf, BeginGives}
 use Rattle.bench.specs.declared.Bench.{Bench}
@@ -93,7 +94,7 @@ module _ {M : Type 1} (𝓤 : URA M) (H : Heap 𝓤) (A : Atoms 𝓤) (W : Given
   qs = (q, (q₁, (q₂, tt)))
 
   abbrev Does : Started → Type 0
-  Does r = BeginGives (beginOf (stateOf h (x₁ .now) (x₂ .now)) x₃) r (x₁ .now) (x₂ .now)
+  Does r = BeginGives (beginOf (stateOf h (x₁ .now) (x₂ .now)) x₃) (r .answer) (benchOf (r .bench)) (x₁ .now) (x₂ .now)
 
   abbrev Post : Val → SProp 𝓤
   Post = walkOf 𝓤 H A here.ended stayed (here.clauses 𝓤 H A at-mem run) .post ((κs, qs, tt, passed, at), tt)

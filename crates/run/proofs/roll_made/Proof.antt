@@ -1,11 +1,12 @@
 use Rattle.run.proofs.MadeLaws.{made-none, made-shaped, made-event, made-whole}
+use Rattle.run.proofs.HeldLaws.{room-silent}
 use borrow.Author.Needs.{needs}
 use Rattle.run.proofs.roll_made.Statement.{statement}
 use Rattle.run.proofs.roll_made.Tie as tie
 use Rattle.run.proofs.roll_made.Reads as reads
 use Rattle.run.proofs.roll_made.Lts as lts
-use Rattle.run.proofs.held.body_place.Reads as body-place-reads
-use Rattle.run.proofs.held.run_events.Reads as run-events-reads
+use Rattle.run.proofs.events.run_events.Reads as run-events-reads
+use Rattle.run.proofs.form.body_place.Reads as body-place-reads
 use Rattle.run.proofs.made.act_in.Reads as act-in-reads
 use Rattle.run.proofs.made.is_none_made.Reads as is-none-made-reads
 use Rattle.run.proofs.opening.opened.Reads as opened-reads
@@ -41,7 +42,7 @@ slice-aggregate-run-events-2 : tie.Need-slice-aggregate-run-events-2
 slice-aggregate-run-events-2 c = search needs
 
 run-events-requires : tie.Need-run-events-requires
-run-events-requires c κs = (search made-shaped, search made-event)
+run-events-requires c κs = ((search made-shaped, search made-event), room-silent _ _)
 
 slice-aggregate-act-in : tie.Need-slice-aggregate-act-in
 slice-aggregate-act-in c = search needs
@@ -56,7 +57,11 @@ same-length : tie.Need-same-length
 same-length c = search needs
 
 returns-2 : tie.Need-returns-2
-returns-2 c = search made-whole
+returns-2 c =
+    let done = c .before .before .before .before in
+    let ran = done .before .before .before .before .before .before .before .before .before in
+    let placed = ran .before .before .before .before .before .before .before in
+    made-whole _ _ _ (placed .before .before .is-none-made .ensures) _ (placed .before .if1 .left) _ (placed .body-place .ensures .0) _ (ran .before .before .before .before .opened .ensures) _ _ _ _ _ (ran .run-events .ensures) _ _ (done .act-in .ensures)
 
 pub roll-made-spec : {M : Type 1} → statement M
 roll-made-spec =

@@ -1,11 +1,13 @@
+use native.Mathlib.Omega.{arith}
 use Rattle.run.proofs.PageLaws.{counts-few, page-none, page-room, page-shaped, page-calls, page-whole}
+use Rattle.run.proofs.HeldLaws.{room-silent}
 use borrow.Author.Needs.{needs}
 use Rattle.run.proofs.roll_page.Statement.{statement}
 use Rattle.run.proofs.roll_page.Tie as tie
 use Rattle.run.proofs.roll_page.Reads as reads
 use Rattle.run.proofs.roll_page.Lts as lts
 use Rattle.calls.proofs.reading.Reads as reading-reads
-use Rattle.run.proofs.held.run_events.Reads as run-events-reads
+use Rattle.run.proofs.events.run_events.Reads as run-events-reads
 use Rattle.run.proofs.opening.opened.Reads as opened-reads
 use Rattle.run.proofs.page.is_no_page.Reads as is-no-page-reads
 use Rattle.run.proofs.slots.put_page.Reads as put-page-reads
@@ -32,16 +34,19 @@ opened-requires c κs =
 
 run-events-requires : tie.Need-run-events-requires
 run-events-requires c κs =
-    let tested = c .before .before .before .before .before in
-    (page-shaped _ _ _ _ _ (tested .before .is-no-page .ensures) (tested .if1 .left), page-calls _ _ _ _ _ (tested .before .is-no-page .ensures) (tested .if1 .left))
+    let tested = c .before .before .before .before .before .before in (
+      (page-shaped _ _ _ _ _ (tested .before .is-no-page .ensures) (tested .if1 .left), page-calls _ _ _ _ _ (tested .before .is-no-page .ensures) (tested .if1 .left)),
+      room-silent _ _,
+    )
 
 reading-requires : tie.Need-reading-requires
 reading-requires c κs = search needs
 
 put-page-requires : tie.Need-put-page-requires
 put-page-requires c κs =
-    let tested = c .before .before .before .before .before .before .before .before .before .before .before .before .before .before in
-    (page-room _ _ _ _ _ (tested .before .is-no-page .ensures) (tested .if1 .left), search counts-few)
+    let tested = c .before .before .before .before .before .before .before .before .before .before .before .before .before .before .before .before .before .before in
+    let room = page-room _ _ _ _ _ (tested .before .is-no-page .ensures) (tested .if1 .left) in
+    (omega arith, search counts-few)
 
 same-length-4 : tie.Need-same-length-4
 same-length-4 c = search needs
@@ -53,7 +58,11 @@ same-length-6 : tie.Need-same-length-6
 same-length-6 c = search needs
 
 returns-2 : tie.Need-returns-2
-returns-2 c = search page-whole
+returns-2 c =
+    let shown = c .before .before in
+    let ran = shown .before .before .before .before .before .before .before .before .before .before .before .before in
+    let tested = ran .before .before .before .before .before .before .before in
+    page-whole _ _ _ _ _ (tested .before .is-no-page .ensures) (tested .if1 .left) _ (ran .before .before .before .before .opened .ensures) _ _ _ _ _ (ran .run-events .ensures) _ (shown .before .before .reading .ensures) _ _ (shown .put-page .ensures .0)
 
 pub roll-page-spec : {M : Type 1} → statement M
 roll-page-spec =

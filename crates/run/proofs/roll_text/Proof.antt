@@ -1,11 +1,14 @@
+use native.Mathlib.Omega.{arith}
 use Rattle.run.proofs.EventLaws.{text-scant, text-none, text-shut, text-whole}
 use Rattle.run.proofs.RollForm.{shaped}
+use Rattle.run.proofs.HeldLaws.{room-first}
 use borrow.Author.Needs.{needs}
 use Rattle.run.proofs.roll_text.Statement.{statement}
 use Rattle.run.proofs.roll_text.Tie as tie
 use Rattle.run.proofs.roll_text.Reads as reads
 use Rattle.run.proofs.roll_text.Lts as lts
-use Rattle.run.proofs.events.print_events.Reads as print-events-reads
+use Rattle.run.proofs.events.run_events.Reads as run-events-reads
+use Rattle.run.proofs.form.events_of.Reads as events-of-reads
 use Rattle.run.proofs.form.is_misshapen.Reads as is-misshapen-reads
 use Rattle.run.proofs.lines.put_first_line.Reads as put-first-line-reads
 use Rattle.run.proofs.lines.put_no_roll.Reads as put-no-roll-reads
@@ -57,20 +60,29 @@ opened-requires c κs = search shaped
 put-first-line-requires : tie.Need-put-first-line-requires
 put-first-line-requires c κs = (search needs, search shaped)
 
-slice-aggregate-print-events : tie.Need-slice-aggregate-print-events
-slice-aggregate-print-events c = search needs
+events-of-requires : tie.Need-events-of-requires
+events-of-requires c κs = search needs
 
-slice-aggregate-print-events-2 : tie.Need-slice-aggregate-print-events-2
-slice-aggregate-print-events-2 c = search needs
+slice-aggregate-run-events : tie.Need-slice-aggregate-run-events
+slice-aggregate-run-events c = search needs
 
-print-events-requires : tie.Need-print-events-requires
-print-events-requires c κs = (search needs, (search needs, search shaped))
+slice-aggregate-run-events-2 : tie.Need-slice-aggregate-run-events-2
+slice-aggregate-run-events-2 c = search needs
+
+run-events-requires : tie.Need-run-events-requires
+run-events-requires c κs =
+    ((search shaped, search needs), room-first _ _ (c .before .before .before .before .before .before .put-first-line .ensures .1) (omega arith))
 
 same-length-3 : tie.Need-same-length-3
 same-length-3 c = search needs
 
 returns-4 : tie.Need-returns-4
-returns-4 c = search text-whole
+returns-4 c =
+    let ran = c .before .before .before .before in
+    let first = ran .before .before .before .before .before .before .before in
+    let tested = first .before .before .before .before .before in
+    text-whole _ _ (tested .before .before .before .before .before .before .if1 .left) _ (tested .before .before .before .before .before .is-misshapen .ensures) _ _ (tested .before .before .before .before .if2 .left) _ (tested .before .is-shut .ensures) (tested .if3 .left)
+    _ (first .before .before .opened .ensures) _ _ (first .put-first-line .ensures .0) _ (ran .before .before .before .before .events-of .ensures .0) _ _ _ (ran .run-events .ensures)
 
 pub roll-text-spec : {M : Type 1} → statement M
 roll-text-spec =
@@ -91,8 +103,9 @@ roll-text-spec =
     slice-aggregate-opened-2
     opened-requires
     put-first-line-requires
-    slice-aggregate-print-events
-    slice-aggregate-print-events-2
-    print-events-requires
+    events-of-requires
+    slice-aggregate-run-events
+    slice-aggregate-run-events-2
+    run-events-requires
     same-length-3
     returns-4)

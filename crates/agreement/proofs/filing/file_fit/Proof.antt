@@ -3,15 +3,23 @@ use Rattle.agreement.proofs.FileCases.{file-equivocator, file-same, fil
 use borrow.Author.Needs.{needs}
 use Rattle.agreement.proofs.filing.file_fit.Statement.{statement}
 use Rattle.agreement.proofs.filing.file_fit.Tie as tie
+use Rattle.agreement.proofs.filing.once.Reads as once-reads
+use Rattle.agreement.proofs.filing.twice.Reads as twice-reads
+use Rattle.agreement.proofs.room.is_filed.Reads as is-filed-reads
+use Rattle.agreement.proofs.room.store_log.Reads as store-log-reads
+use Rattle.agreement.proofs.sets.has.Reads as has-reads
 
-array-read-if1 : tie.Need-array-read-if1
-array-read-if1 c = search needs
+has-requires : tie.Need-has-requires
+has-requires c κs = search needs
 
 returns : tie.Need-returns
 returns c = search file-equivocator
 
-array-read-if2 : tie.Need-array-read-if2
-array-read-if2 c = search needs
+has-requires-2 : tie.Need-has-requires-2
+has-requires-2 c κs = search needs
+
+element-copy-out-is-filed : tie.Need-element-copy-out-is-filed
+element-copy-out-is-filed c = search needs
 
 is-filed-requires : tie.Need-is-filed-requires
 is-filed-requires c κs = search needs
@@ -25,8 +33,8 @@ same-length-2 c = search needs
 returns-2 : tie.Need-returns-2
 returns-2 c = search file-same
 
-with-second-requires : tie.Need-with-second-requires
-with-second-requires c κs = search needs
+twice-requires : tie.Need-twice-requires
+twice-requires c κs = search needs
 
 same-length-3 : tie.Need-same-length-3
 same-length-3 c = search needs
@@ -40,11 +48,14 @@ returns-3 c = search file-other
 store-log-requires : tie.Need-store-log-requires
 store-log-requires c κs = search needs
 
-shared-slice-read-with-first : tie.Need-shared-slice-read-with-first
-shared-slice-read-with-first c = search some-bytes
+shared-slice-read-lengths : tie.Need-shared-slice-read-lengths
+shared-slice-read-lengths c = search some-bytes
 
-with-first-requires : tie.Need-with-first-requires
-with-first-requires c κs = search needs
+element-write-lengths : tie.Need-element-write-lengths
+element-write-lengths c = search needs
+
+once-requires : tie.Need-once-requires
+once-requires c κs = search needs
 
 same-length-5 : tie.Need-same-length-5
 same-length-5 c = search needs
@@ -59,20 +70,22 @@ pub file-fit-spec : {M : Type 1} → statement M
 file-fit-spec =
     tie.close
     (tie.spec
-    array-read-if1
+    has-requires
     returns
-    array-read-if2
+    has-requires-2
+    element-copy-out-is-filed
     is-filed-requires
     same-length
     same-length-2
     returns-2
-    with-second-requires
+    twice-requires
     same-length-3
     same-length-4
     returns-3
     store-log-requires
-    shared-slice-read-with-first
-    with-first-requires
+    shared-slice-read-lengths
+    element-write-lengths
+    once-requires
     same-length-5
     same-length-6
     returns-4)

@@ -1,4 +1,4 @@
-use Rattle.agreement.proofs.ClimbLaws.{climb-next, follow-all, follow-same, follow-far, far-few, follow-voted, top-voted, top-full}
+use Rattle.agreement.proofs.ClimbLaws.{follow-all, follow-same, follow-far, far-few, follow-voted, top-voted, top-full}
 use Prim.Native.Nat.{_≤_, _<_, _-_}
 use Rattle.message.specs.Limits.{mostBlocks}
 use Rattle.agreement.specs.Limits.{mostSenders}
@@ -6,21 +6,25 @@ use Rattle.agreement.specs.Steps.{Climbing, Following}
 use borrow.Author.Needs.{needs}
 use Rattle.agreement.proofs.grading.climb.Statement.{statement}
 use Rattle.agreement.proofs.grading.climb.Tie as tie
+use Rattle.agreement.proofs.grading.narrow.Reads as narrow-reads
+use Rattle.agreement.proofs.grading.narrow_far.Reads as narrow-far-reads
+use Rattle.agreement.proofs.grading.vote.Reads as vote-reads
+use Rattle.agreement.proofs.sets.size.Reads as size-reads
 
 abbrev Inv-loop : tie.InvT-loop
-Inv-loop names counts lengths base all followers₀ who₀ l₀ followers who l = ((l ≤ mostBlocks) × (who < mostSenders)) × (Climbing names counts base lengths followers₀ all × Following names counts base lengths followers₀ all who l followers)
+Inv-loop names counts lengths may base all followers₀ who₀ l₀ followers who l = ((l ≤ mostBlocks) × (who < mostSenders)) × (Climbing names counts base lengths followers₀ all × Following names counts base lengths followers₀ all who l followers)
 
 abbrev μ-loop : tie.MeasureT-loop
-μ-loop names counts lengths base all followers₀ who₀ l₀ followers who l = mostBlocks - l
+μ-loop names counts lengths may base all followers₀ who₀ l₀ followers who l = mostBlocks - l
 
 loop-holds : tie.Need-loop-holds Inv-loop μ-loop
-loop-holds c = ((search needs, search needs), (c .before .before .pre, follow-all _ _ _ _ _ _ (c .before .before .pre)))
+loop-holds c = ((search needs, search needs), (search needs, search follow-all))
 
 narrow-far-requires : tie.Need-narrow-far-requires Inv-loop μ-loop
-narrow-far-requires c κs = (climb-next (c .before .loop .inv .1 .0) (c .loop-test .taken), c .before .loop .inv .0 .1)
+narrow-far-requires c κs = search needs
 
-count-in-requires : tie.Need-count-in-requires Inv-loop μ-loop
-count-in-requires c κs = search needs
+size-requires : tie.Need-size-requires Inv-loop μ-loop
+size-requires c κs = search needs
 
 mul-if1 : tie.Need-mul-if1 Inv-loop μ-loop
 mul-if1 c = search needs
@@ -32,13 +36,13 @@ loop-less : tie.Need-loop-less Inv-loop μ-loop
 loop-less c = search needs
 
 loop-again : tie.Need-loop-again Inv-loop μ-loop
-loop-again c = ((far-few _ _ _ _ _ _ _ _ _ (c .before .before .before .before .loop .inv .1 .1) _ _ (c .before .before .narrow-far .ensures) (c .before .count-in .ensures .0) (c .if1 .taken), c .before .before .before .before .loop .inv .0 .1), (c .before .before .before .before .loop .inv .1 .0, follow-far _ _ _ _ _ _ _ _ _ (c .before .before .before .before .loop .inv .1 .1) _ _ (c .before .before .narrow-far .ensures) (c .before .count-in .ensures .0) (c .if1 .taken)))
+loop-again c = ((search far-few, search needs), (search needs, search follow-far))
 
 narrow-requires : tie.Need-narrow-requires Inv-loop μ-loop
-narrow-requires c κs = (climb-next (c .before .before .before .before .loop .inv .1 .0) (c .before .before .before .loop-test .taken), c .before .before .before .before .loop .inv .0 .1)
+narrow-requires c κs = search needs
 
-count-in-requires-2 : tie.Need-count-in-requires-2 Inv-loop μ-loop
-count-in-requires-2 c κs = search needs
+size-requires-2 : tie.Need-size-requires-2 Inv-loop μ-loop
+size-requires-2 c κs = search needs
 
 mul-if2 : tie.Need-mul-if2 Inv-loop μ-loop
 mul-if2 c = search needs
@@ -50,16 +54,16 @@ loop-less-2 : tie.Need-loop-less-2 Inv-loop μ-loop
 loop-less-2 c = search needs
 
 loop-again-2 : tie.Need-loop-again-2 Inv-loop μ-loop
-loop-again-2 c = ((search needs, c .before .before .before .before .before .before .before .loop .inv .0 .1), (c .before .before .before .before .before .before .before .loop .inv .1 .0, follow-same _ _ _ _ _ _ _ _ _ (c .before .before .before .before .before .before .before .loop .inv .1 .1) _ _ (c .before .count-in2 .ensures .0) (c .before .before .narrow .ensures) (c .if2 .taken)))
+loop-again-2 c = ((search needs, search needs), (search needs, search follow-same))
 
 vote-requires : tie.Need-vote-requires Inv-loop μ-loop
-vote-requires c κs = (climb-next (c .before .before .before .before .before .before .before .loop .inv .1 .0) (c .before .before .before .before .before .before .loop-test .taken), c .before .before .before .before .before .before .before .loop .inv .0 .1)
+vote-requires c κs = search needs
 
 narrow-requires-2 : tie.Need-narrow-requires-2 Inv-loop μ-loop
-narrow-requires-2 c κs = (climb-next (c .before .before .before .before .before .before .before .before .loop .inv .1 .0) (c .before .before .before .before .before .before .before .loop-test .taken), c .vote .ensures .place)
+narrow-requires-2 c κs = search needs
 
-count-in-requires-3 : tie.Need-count-in-requires-3 Inv-loop μ-loop
-count-in-requires-3 c κs = search needs
+size-requires-3 : tie.Need-size-requires-3 Inv-loop μ-loop
+size-requires-3 c κs = search needs
 
 mul-if3 : tie.Need-mul-if3 Inv-loop μ-loop
 mul-if3 c = search needs
@@ -71,7 +75,7 @@ loop-less-3 : tie.Need-loop-less-3 Inv-loop μ-loop
 loop-less-3 c = search needs
 
 loop-again-3 : tie.Need-loop-again-3 Inv-loop μ-loop
-loop-again-3 c = ((search needs, c .before .before .before .vote .ensures .place), (c .before .before .before .before .before .before .before .before .before .before .before .loop .inv .1 .0, follow-voted _ _ _ _ _ _ _ _ _ (c .before .before .before .before .before .before .before .before .before .before .before .loop .inv .1 .1) _ _ (c .before .count-in3 .ensures .0) _ (c .before .before .before .vote .ensures) (c .before .before .narrow2 .ensures) (c .if3 .taken)))
+loop-again-3 c = ((search needs, search needs), (search needs, search follow-voted))
 
 cast-t23 : tie.Need-cast-t23 Inv-loop μ-loop
 cast-t23 c = search needs
@@ -80,7 +84,7 @@ cast-t24 : tie.Need-cast-t24 Inv-loop μ-loop
 cast-t24 c = search needs
 
 returns : tie.Need-returns Inv-loop μ-loop
-returns c = top-voted _ _ _ _ _ _ _ _ _ (c .before .before .before .before .before .before .before .before .before .before .before .loop .inv .1 .1) (c .before .before .before .before .before .before .before .before .before .before .before .loop .inv .1 .0) _ _ _ (c .before .before .before .vote .ensures) (c .before .before .narrow2 .ensures) (c .before .count-in3 .ensures .0) (c .if3 .left) (c .before .before .before .before .before .before .before .before .before .before .before .loop .inv .0 .0) (c .before .before .before .before .before .before .before .before .before .before .before .loop .inv .0 .1)
+returns c = top-voted _ _ _ _ _ _ _ _ _ (c .before .before .before .before .before .before .before .before .before .before .before .loop .inv .1 .1) (c .before .before .before .before .before .before .before .before .before .before .before .loop .inv .1 .0) _ _ _ (c .before .before .before .vote .ensures) (c .before .before .narrow2 .ensures) (c .before .size3 .ensures .0) (c .if3 .left) (search needs) (search needs)
 
 cast-t25 : tie.Need-cast-t25 Inv-loop μ-loop
 cast-t25 c = search needs
@@ -89,7 +93,7 @@ cast-t26 : tie.Need-cast-t26 Inv-loop μ-loop
 cast-t26 c = search needs
 
 returns-2 : tie.Need-returns-2 Inv-loop μ-loop
-returns-2 c = top-full _ _ _ _ _ _ _ _ _ (c .before .loop .inv .1 .1) (c .before .loop .inv .1 .0) (c .loop-test .left) (c .before .loop .inv .0 .0) (c .before .loop .inv .0 .1)
+returns-2 c = search top-full
 
 pub climb-spec : {M : Type 1} → statement M
 climb-spec =
@@ -99,20 +103,20 @@ climb-spec =
     μ-loop
     loop-holds
     narrow-far-requires
-    count-in-requires
+    size-requires
     mul-if1
     add-l
     loop-less
     loop-again
     narrow-requires
-    count-in-requires-2
+    size-requires-2
     mul-if2
     add-l-2
     loop-less-2
     loop-again-2
     vote-requires
     narrow-requires-2
-    count-in-requires-3
+    size-requires-3
     mul-if3
     add-l-3
     loop-less-3

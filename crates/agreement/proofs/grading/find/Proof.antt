@@ -1,8 +1,11 @@
 use Rattle.agreement.proofs.FindLaws.{climb-asks, find-found, find-none}
-use native.Mathlib.Omega.{arith}
 use borrow.Author.Needs.{needs}
 use Rattle.agreement.proofs.grading.find.Statement.{statement}
 use Rattle.agreement.proofs.grading.find.Tie as tie
+use Rattle.agreement.proofs.grading.climb.Reads as climb-reads
+use Rattle.agreement.proofs.sets.in_both.Reads as in-both-reads
+use Rattle.agreement.proofs.sets.size.Reads as size-reads
+use Rattle.agreement.proofs.tally.senders.Reads as senders-reads
 
 in-both-requires : tie.Need-in-both-requires
 in-both-requires c κs = search needs
@@ -10,14 +13,14 @@ in-both-requires c κs = search needs
 senders-requires : tie.Need-senders-requires
 senders-requires c κs = search needs
 
-count-in-requires : tie.Need-count-in-requires
-count-in-requires c κs = search needs
+size-requires : tie.Need-size-requires
+size-requires c κs = search needs
 
 mul-if1 : tie.Need-mul-if1
 mul-if1 c = search needs
 
 climb-requires : tie.Need-climb-requires
-climb-requires c κs = climb-asks _ _ _ (c .before .before .before .before .before .before .before .before .args .g) (c .before .before .before .before .before .before .before .before .args .among) _ (c .before .before .before .in-both .ensures) _ (c .before .before .senders .ensures .0) _ (c .before .count-in .ensures .0) (search needs) (omega arith)
+climb-requires c κs = climb-asks _ _ _ _ _ _ _ _ _ _ (c .before .before .before .in-both .ensures) (c .before .before .senders .ensures .0) (c .before .size .ensures .0) (search needs) (c .if1 .taken)
 
 returns : tie.Need-returns
 returns c = search find-found
@@ -31,7 +34,7 @@ find-spec =
     (tie.spec
     in-both-requires
     senders-requires
-    count-in-requires
+    size-requires
     mul-if1
     climb-requires
     returns

@@ -3,6 +3,7 @@ use native.Mathlib.Omega.{arith}
 use borrow.Author.Needs.{needs}
 use Rattle.agreement.proofs.grading.narrow_far.Statement.{statement}
 use Rattle.agreement.proofs.grading.narrow_far.Tie as tie
+use Rattle.agreement.proofs.grading.narrow_run.Reads as narrow-run-reads
 
 narrow-run-requires : tie.Need-narrow-run-requires
 narrow-run-requires c κs = search needs

@@ -1,63 +1,58 @@
-use Rattle.agreement.proofs.CountLaws.{Filling, set-none, set-all}
-use Rattle.agreement.proofs.NarrowLaws.{run-next}
-use Prim.Native.Nat.{_-_}
-use mathlib.Core.Path.{refl}
-use Rattle.agreement.specs.Limits.{mostSenders}
-use Rattle.agreement.specs.Steps.{runLength, narrowedBy}
+use Rattle.agreement.proofs.CountLaws.{walk-below}
+use Rattle.agreement.proofs.NarrowLaws.{Running, run-none, run-skip, run-yes, run-no, run-end, run-asks}
 use borrow.Author.Needs.{needs}
 use Rattle.agreement.proofs.grading.narrow_run.Statement.{statement}
 use Rattle.agreement.proofs.grading.narrow_run.Tie as tie
+use Rattle.agreement.proofs.grading.runs_on.Reads as runs-on-reads
+use Rattle.agreement.proofs.sets.with_sender.Reads as with-sender-reads
 
 abbrev Inv-loop : tie.InvT-loop
-Inv-loop names counts base l c lengths followers a next₀ j₀ next j = Filling (narrowedBy names counts base lengths followers l c runLength) j next
+Inv-loop names counts lengths followers base l c a next₀ left₀ i₀ next left i = Running names counts lengths followers base l c a i left next
 
 abbrev μ-loop : tie.MeasureT-loop
-μ-loop names counts base l c lengths followers a next₀ j₀ next j = mostSenders - j
+μ-loop names counts lengths followers base l c a next₀ left₀ i₀ next left i = left
 
-place-of-requires : tie.Need-place-of-requires Inv-loop μ-loop
-place-of-requires c κs = search needs
+mul-a : tie.Need-mul-a Inv-loop μ-loop
+mul-a c = search needs
 
 add-a : tie.Need-add-a Inv-loop μ-loop
 add-a c = search needs
 
+add-a-2 : tie.Need-add-a-2 Inv-loop μ-loop
+add-a-2 c = search needs
+
 loop-holds : tie.Need-loop-holds Inv-loop μ-loop
-loop-holds c = set-none _ _ refl
+loop-holds c = run-none _ _ _ _ _ _ _ (search needs)
 
-place-of-requires-2 : tie.Need-place-of-requires-2 Inv-loop μ-loop
-place-of-requires-2 c κs = search needs
+add-i : tie.Need-add-i Inv-loop μ-loop
+add-i c = search needs
 
-add-b : tie.Need-add-b Inv-loop μ-loop
-add-b c = search needs
+runs-on-requires : tie.Need-runs-on-requires Inv-loop μ-loop
+runs-on-requires c κs = search run-asks
 
-array-read-next : tie.Need-array-read-next Inv-loop μ-loop
-array-read-next c = search needs
-
-add-next : tie.Need-add-next Inv-loop μ-loop
-add-next c = search needs
-
-array-read-next-2 : tie.Need-array-read-next-2 Inv-loop μ-loop
-array-read-next-2 c = search needs
-
-cast-next : tie.Need-cast-next Inv-loop μ-loop
-cast-next c = search needs
-
-same-run-requires : tie.Need-same-run-requires Inv-loop μ-loop
-same-run-requires c κs = search needs
-
-array-write-next : tie.Need-array-write-next Inv-loop μ-loop
-array-write-next c = search needs
-
-add-j : tie.Need-add-j Inv-loop μ-loop
-add-j c = search needs
+with-sender-requires : tie.Need-with-sender-requires Inv-loop μ-loop
+with-sender-requires c κs = search walk-below
 
 loop-less : tie.Need-loop-less Inv-loop μ-loop
 loop-less c = search needs
 
 loop-again : tie.Need-loop-again Inv-loop μ-loop
-loop-again c = run-next (c .before .before .before .before .before .before .before .args .names .now) (c .before .before .before .before .before .before .before .args .counts .now) (c .before .before .before .before .before .before .before .args .base) (c .before .before .before .before .before .before .before .args .t3) (c .before .before .before .before .before .before .before .args .t4) (c .before .before .before .before .before .before .before .args .l) (c .before .before .before .before .before .before .before .args .c) _ _ _ _ _ _ (c .before .before .before .loop .inv) (c .before .before .loop-test .taken) (c .before .before .before .before .place-of .ensures) (c .before .place-of2 .ensures) (c .same-run .ensures) refl
+loop-again c = search run-yes
+
+loop-less-2 : tie.Need-loop-less-2 Inv-loop μ-loop
+loop-less-2 c = search needs
+
+loop-again-2 : tie.Need-loop-again-2 Inv-loop μ-loop
+loop-again-2 c = search run-no
+
+loop-less-3 : tie.Need-loop-less-3 Inv-loop μ-loop
+loop-less-3 c = search needs
+
+loop-again-3 : tie.Need-loop-again-3 Inv-loop μ-loop
+loop-again-3 c = search run-skip
 
 returns : tie.Need-returns Inv-loop μ-loop
-returns c = set-all _ _ _ (c .before .loop .inv) (c .loop-test .left)
+returns c = search run-end
 
 pub narrow-run-spec : {M : Type 1} → statement M
 narrow-run-spec =
@@ -65,18 +60,17 @@ narrow-run-spec =
     (tie.spec
     Inv-loop
     μ-loop
-    place-of-requires
+    mul-a
     add-a
+    add-a-2
     loop-holds
-    place-of-requires-2
-    add-b
-    array-read-next
-    add-next
-    array-read-next-2
-    cast-next
-    same-run-requires
-    array-write-next
-    add-j
+    add-i
+    runs-on-requires
+    with-sender-requires
     loop-less
     loop-again
+    loop-less-2
+    loop-again-2
+    loop-less-3
+    loop-again-3
     returns)

@@ -1,28 +1,27 @@
+use Rattle.agreement.proofs.CountLaws.{walk-start, walk-next, walk-below, walk-room}
 use Rattle.agreement.proofs.VoteLaws.{lead-none, lead-skip, lead-new, lead-same, lead-other, voted}
-use Prim.Native.Nat.{_≤_, _<_, _-_}
+use Prim.Native.Nat.{_≤_, _<_}
 use Rattle.agreement.specs.Limits.{mostSenders}
-use Rattle.agreement.specs.Steps.{Leads}
+use Rattle.agreement.specs.Steps.{Walks, Leads}
 use borrow.Author.Needs.{needs}
 use Rattle.agreement.proofs.grading.vote.Statement.{statement}
 use Rattle.agreement.proofs.grading.vote.Tie as tie
+use Rattle.agreement.proofs.grading.same_next.Reads as same-next-reads
 
 abbrev Inv-loop : tie.InvT-loop
-Inv-loop names counts base l who followers best₀ weight₀ j₀ best weight j = (((j ≤ mostSenders) × (best < mostSenders)) × (weight ≤ j)) × Leads names counts base followers l who j best weight
+Inv-loop names counts followers base l who best₀ weight₀ left₀ j₀ best weight left j = ((((j ≤ mostSenders) × (best < mostSenders)) × (weight ≤ j)) × Walks followers j left) × Leads names counts base followers l who j best weight
 
 abbrev μ-loop : tie.MeasureT-loop
-μ-loop names counts base l who followers best₀ weight₀ j₀ best weight j = mostSenders - j
+μ-loop names counts followers base l who best₀ weight₀ left₀ j₀ best weight left j = left
 
 loop-holds : tie.Need-loop-holds Inv-loop μ-loop
-loop-holds c = (((search needs, search needs), search needs), lead-none _ _ _ _ _ _)
+loop-holds c = ((((search needs, search needs), search needs), search walk-start), lead-none _ _ _ _ _ _)
 
 add-j : tie.Need-add-j Inv-loop μ-loop
 add-j c = search needs
 
-array-read-if1 : tie.Need-array-read-if1 Inv-loop μ-loop
-array-read-if1 c = search needs
-
 same-next-requires : tie.Need-same-next-requires Inv-loop μ-loop
-same-next-requires c κs = search needs
+same-next-requires c κs = (search needs, (search needs, search walk-below))
 
 add-weight : tie.Need-add-weight Inv-loop μ-loop
 add-weight c = search needs
@@ -31,7 +30,7 @@ loop-less : tie.Need-loop-less Inv-loop μ-loop
 loop-less c = search needs
 
 loop-again : tie.Need-loop-again Inv-loop μ-loop
-loop-again c = (((search needs, search needs), search needs), search lead-same)
+loop-again c = ((((search walk-room, search needs), search needs), search walk-next), search lead-same)
 
 sub-weight : tie.Need-sub-weight Inv-loop μ-loop
 sub-weight c = search needs
@@ -40,19 +39,19 @@ loop-less-2 : tie.Need-loop-less-2 Inv-loop μ-loop
 loop-less-2 c = search needs
 
 loop-again-2 : tie.Need-loop-again-2 Inv-loop μ-loop
-loop-again-2 c = (((search needs, search needs), search needs), search lead-other)
+loop-again-2 c = ((((search walk-room, search needs), search needs), search walk-next), search lead-other)
 
 loop-less-3 : tie.Need-loop-less-3 Inv-loop μ-loop
 loop-less-3 c = search needs
 
 loop-again-3 : tie.Need-loop-again-3 Inv-loop μ-loop
-loop-again-3 c = (((search needs, search needs), search needs), search lead-new)
+loop-again-3 c = ((((search walk-room, search walk-below), search needs), search walk-next), search lead-new)
 
 loop-less-4 : tie.Need-loop-less-4 Inv-loop μ-loop
 loop-less-4 c = search needs
 
 loop-again-4 : tie.Need-loop-again-4 Inv-loop μ-loop
-loop-again-4 c = (((search needs, search needs), search needs), search lead-skip)
+loop-again-4 c = ((((search walk-room, search needs), search needs), search walk-next), search lead-skip)
 
 returns : tie.Need-returns Inv-loop μ-loop
 returns c = search voted
@@ -65,7 +64,6 @@ vote-spec =
     μ-loop
     loop-holds
     add-j
-    array-read-if1
     same-next-requires
     add-weight
     loop-less

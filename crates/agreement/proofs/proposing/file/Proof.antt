@@ -3,6 +3,8 @@ use Rattle.agreement.proofs.ProposalLaws.{proposal-unfit}
 use borrow.Author.Needs.{needs}
 use Rattle.agreement.proofs.proposing.file.Statement.{statement}
 use Rattle.agreement.proofs.proposing.file.Tie as tie
+use Rattle.agreement.proofs.proposing.file_fit.Reads as file-fit-reads
+use Rattle.agreement.proofs.room.unfit.Reads as unfit-reads
 
 unfit-requires : tie.Need-unfit-requires
 unfit-requires c κs = search needs
@@ -11,7 +13,7 @@ returns : tie.Need-returns
 returns c = search proposal-unfit
 
 file-fit-requires : tie.Need-file-fit-requires
-file-fit-requires c κs = fit-by _ _ _ _ _ _ (c .before .before .before .unfit .ensures) (c .before .before .if1 .left)
+file-fit-requires c κs = fit-by _ _ _ _ _ _ (c .before .before .before .before .before .unfit .ensures) (c .before .before .before .before .if1 .left)
 
 same-length : tie.Need-same-length
 same-length c = search needs

@@ -1,11 +1,34 @@
 use Rattle.agreement.proofs.FilingLaws.{some-bytes}
-use Rattle.agreement.proofs.ProposalLaws.{proposal-known, proposal-second, proposal-first}
+use Rattle.agreement.proofs.ProposalLaws.{proposal-aside, proposal-same, proposal-other, proposal-new}
 use borrow.Author.Needs.{needs}
 use Rattle.agreement.proofs.proposing.file_fit.Statement.{statement}
 use Rattle.agreement.proofs.proposing.file_fit.Tie as tie
+use Rattle.agreement.proofs.proposing.is_same.Reads as is-same-reads
+use Rattle.agreement.proofs.proposing.once.Reads as once-reads
+use Rattle.agreement.proofs.proposing.twice.Reads as twice-reads
+use Rattle.agreement.proofs.room.store_log.Reads as store-log-reads
+use Rattle.agreement.proofs.sets.has.Reads as has-reads
 
-is-known-requires : tie.Need-is-known-requires
-is-known-requires c κs = search needs
+has-requires : tie.Need-has-requires
+has-requires c κs = search needs
+
+returns : tie.Need-returns
+returns c = search proposal-aside
+
+has-requires-2 : tie.Need-has-requires-2
+has-requires-2 c κs = search needs
+
+element-copy-out-is-same : tie.Need-element-copy-out-is-same
+element-copy-out-is-same c = search needs
+
+mul-is-same : tie.Need-mul-is-same
+mul-is-same c = search needs
+
+element-copy-out-is-same-2 : tie.Need-element-copy-out-is-same-2
+element-copy-out-is-same-2 c = search needs
+
+is-same-requires : tie.Need-is-same-requires
+is-same-requires c κs = search needs
 
 same-length : tie.Need-same-length
 same-length c = search needs
@@ -13,14 +36,11 @@ same-length c = search needs
 same-length-2 : tie.Need-same-length-2
 same-length-2 c = search needs
 
-returns : tie.Need-returns
-returns c = search proposal-known
+returns-2 : tie.Need-returns-2
+returns-2 c = search proposal-same
 
-array-read-if2 : tie.Need-array-read-if2
-array-read-if2 c = search needs
-
-set-aside-requires : tie.Need-set-aside-requires
-set-aside-requires c κs = search needs
+twice-requires : tie.Need-twice-requires
+twice-requires c κs = search needs
 
 same-length-3 : tie.Need-same-length-3
 same-length-3 c = search needs
@@ -28,17 +48,26 @@ same-length-3 c = search needs
 same-length-4 : tie.Need-same-length-4
 same-length-4 c = search needs
 
-returns-2 : tie.Need-returns-2
-returns-2 c = search proposal-second
+returns-3 : tie.Need-returns-3
+returns-3 c = search proposal-other
 
 store-log-requires : tie.Need-store-log-requires
 store-log-requires c κs = search needs
 
-shared-slice-read-with-proposal : tie.Need-shared-slice-read-with-proposal
-shared-slice-read-with-proposal c = search some-bytes
+shared-slice-read-lengths : tie.Need-shared-slice-read-lengths
+shared-slice-read-lengths c = search some-bytes
 
-with-proposal-requires : tie.Need-with-proposal-requires
-with-proposal-requires c κs = search needs
+element-write-lengths : tie.Need-element-write-lengths
+element-write-lengths c = search needs
+
+mul-priorities : tie.Need-mul-priorities
+mul-priorities c = search needs
+
+element-write-priorities : tie.Need-element-write-priorities
+element-write-priorities c = search needs
+
+once-requires : tie.Need-once-requires
+once-requires c κs = search needs
 
 same-length-5 : tie.Need-same-length-5
 same-length-5 c = search needs
@@ -46,25 +75,33 @@ same-length-5 c = search needs
 same-length-6 : tie.Need-same-length-6
 same-length-6 c = search needs
 
-returns-3 : tie.Need-returns-3
-returns-3 c = search proposal-first
+returns-4 : tie.Need-returns-4
+returns-4 c = search proposal-new
 
 pub file-fit-spec : {M : Type 1} → statement M
 file-fit-spec =
     tie.close
     (tie.spec
-    is-known-requires
+    has-requires
+    returns
+    has-requires-2
+    element-copy-out-is-same
+    mul-is-same
+    element-copy-out-is-same-2
+    is-same-requires
     same-length
     same-length-2
-    returns
-    array-read-if2
-    set-aside-requires
+    returns-2
+    twice-requires
     same-length-3
     same-length-4
-    returns-2
+    returns-3
     store-log-requires
-    shared-slice-read-with-proposal
-    with-proposal-requires
+    shared-slice-read-lengths
+    element-write-lengths
+    mul-priorities
+    element-write-priorities
+    once-requires
     same-length-5
     same-length-6
-    returns-3)
+    returns-4)

@@ -2,15 +2,10 @@ use Rattle.agreement.proofs.FilingLaws.{is-filed}
 use borrow.Author.Needs.{needs}
 use Rattle.agreement.proofs.room.is_filed.Statement.{statement}
 use Rattle.agreement.proofs.room.is_filed.Tie as tie
+use Rattle.message.proofs.store.matches.Reads as matches-reads
 
 place-of-requires : tie.Need-place-of-requires
 place-of-requires c κs = search needs
-
-array-read-matches : tie.Need-array-read-matches
-array-read-matches c = search needs
-
-cast-matches : tie.Need-cast-matches
-cast-matches c = search needs
 
 matches-requires : tie.Need-matches-requires
 matches-requires c κs = search needs
@@ -19,5 +14,4 @@ returns : tie.Need-returns
 returns c = search is-filed
 
 pub is-filed-spec : {M : Type 1} → statement M
-is-filed-spec =
-    tie.close (tie.spec place-of-requires array-read-matches cast-matches matches-requires returns)
+is-filed-spec = tie.close (tie.spec place-of-requires matches-requires returns)

@@ -4,16 +4,19 @@ use Prim.Native.Nat.{_≤_, _-_}
 use mathlib.Core.Path.{_≡_}
 use Rattle.agreement.specs.Limits.{mostSenders}
 use Rattle.agreement.specs.Sets.{count}
+use Rattle.agreement.specs.Record.{agreementFrom}
 use Rattle.agreement.specs.Steps.{backs}
 use borrow.Author.Needs.{needs}
 use Rattle.agreement.proofs.tally.count_behind.Statement.{statement}
 use Rattle.agreement.proofs.tally.count_behind.Tie as tie
+use Rattle.agreement.proofs.tally.added.Reads as added-reads
+use Rattle.agreement.proofs.tally.is_behind.Reads as is-behind-reads
 
 abbrev Inv-loop : tie.InvT-loop
-Inv-loop g names counts base among a k n₀ j₀ n j = ((j ≤ mostSenders) × (n ≤ j)) × (n ≡ count j (backs names counts base g among a k))
+Inv-loop g lengths names counts base among a k n₀ j₀ n j = ((j ≤ mostSenders) × (n ≤ j)) × (n ≡ count j (backs names counts base (agreementFrom g lengths) among a k))
 
 abbrev μ-loop : tie.MeasureT-loop
-μ-loop g names counts base among a k n₀ j₀ n j = mostSenders - j
+μ-loop g lengths names counts base among a k n₀ j₀ n j = mostSenders - j
 
 loop-holds : tie.Need-loop-holds Inv-loop μ-loop
 loop-holds c = ((search needs, search needs), count-none _)

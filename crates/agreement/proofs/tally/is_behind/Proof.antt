@@ -2,24 +2,27 @@ use Rattle.agreement.proofs.TallyLaws.{backs-is}
 use borrow.Author.Needs.{needs}
 use Rattle.agreement.proofs.tally.is_behind.Statement.{statement}
 use Rattle.agreement.proofs.tally.is_behind.Tie as tie
+use Rattle.agreement.proofs.room.wide.Reads as wide-reads
+use Rattle.agreement.proofs.sets.has.Reads as has-reads
+use Rattle.message.proofs.store.is_prefix.Reads as is-prefix-reads
 
 place-of-requires : tie.Need-place-of-requires
 place-of-requires c κs = search needs
 
-array-read-is-prefix : tie.Need-array-read-is-prefix
-array-read-is-prefix c = search needs
+element-copy-out-wide : tie.Need-element-copy-out-wide
+element-copy-out-wide c = search needs
 
-cast-is-prefix : tie.Need-cast-is-prefix
-cast-is-prefix c = search needs
+wide-requires : tie.Need-wide-requires
+wide-requires c κs = search needs
 
 is-prefix-requires : tie.Need-is-prefix-requires
 is-prefix-requires c κs = search needs
 
-array-read-result : tie.Need-array-read-result
-array-read-result c = search needs
+has-requires : tie.Need-has-requires
+has-requires c κs = search needs
 
-array-read-result-2 : tie.Need-array-read-result-2
-array-read-result-2 c = search needs
+has-requires-2 : tie.Need-has-requires-2
+has-requires-2 c κs = search needs
 
 returns : tie.Need-returns
 returns c = search backs-is
@@ -29,9 +32,9 @@ is-behind-spec =
     tie.close
     (tie.spec
     place-of-requires
-    array-read-is-prefix
-    cast-is-prefix
+    element-copy-out-wide
+    wide-requires
     is-prefix-requires
-    array-read-result
-    array-read-result-2
+    has-requires
+    has-requires-2
     returns)

@@ -2,6 +2,9 @@ use Rattle.agreement.proofs.TallyLaws.{tally-nowhere, tally-barred, tal
 use borrow.Author.Needs.{needs}
 use Rattle.agreement.proofs.tally.supporters.Statement.{statement}
 use Rattle.agreement.proofs.tally.supporters.Tie as tie
+use Rattle.agreement.proofs.room.lacks_room.Reads as lacks-room-reads
+use Rattle.agreement.proofs.tally.count_behind.Reads as count-behind-reads
+use Rattle.agreement.proofs.tally.is_over.Reads as is-over-reads
 
 returns : tie.Need-returns
 returns c = (search tally-nowhere, search needs)
@@ -9,8 +12,8 @@ returns c = (search tally-nowhere, search needs)
 lacks-room-requires : tie.Need-lacks-room-requires
 lacks-room-requires c κs = search needs
 
-count-over-requires : tie.Need-count-over-requires
-count-over-requires c κs = search needs
+is-over-requires : tie.Need-is-over-requires
+is-over-requires c κs = search needs
 
 returns-2 : tie.Need-returns-2
 returns-2 c = (search tally-barred, search needs)
@@ -30,7 +33,7 @@ supporters-spec =
     (tie.spec
     returns
     lacks-room-requires
-    count-over-requires
+    is-over-requires
     returns-2
     place-of-requires
     count-behind-requires

@@ -1,14 +1,20 @@
-use Rattle.bench.proofs.TestedLaws.{usable-over, tested-over}
-use Rattle.calls.proofs.ActCases.{proposed, voted, decided, snapped-two}
+use Rattle.calls.proofs.ActCases.{asks-decidable, asks-tested, decided, proposed, snapped-two, voted}
 use borrow.Author.Needs.{needs}
 use Rattle.calls.proofs.acts.act_at.Statement.{statement}
 use Rattle.calls.proofs.acts.act_at.Tie as tie
+use Rattle.calls.proofs.acts.act_at.Reads as reads
+use Rattle.calls.proofs.acts.act_at.Lts as lts
+use Rattle.calls.proofs.deciding.decide.Reads as decide-reads
+use Rattle.calls.proofs.deciding.snap_view.Reads as snap-view-reads
+use Rattle.calls.proofs.making.propose.Reads as propose-reads
+use Rattle.calls.proofs.making.vote.Reads as vote-reads
+use Rattle.calls.proofs.record.beat_of.Reads as beat-of-reads
 
 beat-of-requires : tie.Need-beat-of-requires
 beat-of-requires c κs = search needs
 
 propose-requires : tie.Need-propose-requires
-propose-requires c κs = search tested-over
+propose-requires c κs = search asks-tested
 
 same-length : tie.Need-same-length
 same-length c = search needs
@@ -23,7 +29,7 @@ returns : tie.Need-returns
 returns c = search proposed
 
 vote-requires : tie.Need-vote-requires
-vote-requires c κs = search tested-over
+vote-requires c κs = search asks-tested
 
 same-length-4 : tie.Need-same-length-4
 same-length-4 c = search needs
@@ -37,8 +43,11 @@ same-length-6 c = search needs
 returns-2 : tie.Need-returns-2
 returns-2 c = search voted
 
-decide-and-snap-requires : tie.Need-decide-and-snap-requires
-decide-and-snap-requires c κs = search usable-over
+decide-requires : tie.Need-decide-requires
+decide-requires c κs = search asks-decidable
+
+snap-view-requires : tie.Need-snap-view-requires
+snap-view-requires c κs = search needs
 
 same-length-7 : tie.Need-same-length-7
 same-length-7 c = search needs
@@ -47,10 +56,13 @@ same-length-8 : tie.Need-same-length-8
 same-length-8 c = search needs
 
 returns-3 : tie.Need-returns-3
-returns-3 c = search decided
+returns-3 c =
+    let decision = c .before .before .before .before .before .before .before in
+    let start = decision .before .before .before .before .before .before .before .before .before .before .before .before in
+    decided (start .args .h) _ _ _ _ _ _ _ _ _ _ (decision .before .before .before .before .before .before .before .before .beat-of .ensures) _ _ _ _ _ _ (decision .before .before .before .before .before .if3 .taken) (decision .decide .ensures) (c .snap-view .ensures)
 
-snap-two-requires : tie.Need-snap-two-requires
-snap-two-requires c κs = search needs
+snap-view-requires-2 : tie.Need-snap-view-requires-2
+snap-view-requires-2 c κs = search needs
 
 returns-4 : tie.Need-returns-4
 returns-4 c = search snapped-two
@@ -70,9 +82,10 @@ act-at-spec =
     same-length-5
     same-length-6
     returns-2
-    decide-and-snap-requires
+    decide-requires
+    snap-view-requires
     same-length-7
     same-length-8
     returns-3
-    snap-two-requires
+    snap-view-requires-2
     returns-4)

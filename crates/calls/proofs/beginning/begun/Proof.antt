@@ -2,6 +2,10 @@ use Rattle.calls.proofs.RecordCases.{begun-is}
 use borrow.Author.Needs.{needs}
 use Rattle.calls.proofs.beginning.begun.Statement.{statement}
 use Rattle.calls.proofs.beginning.begun.Tie as tie
+use Rattle.calls.proofs.beginning.begun.Reads as reads
+use Rattle.calls.proofs.beginning.begun.Lts as lts
+use Rattle.calls.proofs.beginning.kept_agreement.Reads as kept-agreement-reads
+use Rattle.calls.proofs.beginning.kept_proposals.Reads as kept-proposals-reads
 
 kept-agreement-requires : tie.Need-kept-agreement-requires
 kept-agreement-requires c κs = search needs
@@ -12,8 +16,8 @@ kept-agreement-requires-2 c κs = search needs
 kept-proposals-requires : tie.Need-kept-proposals-requires
 kept-proposals-requires c κs = search needs
 
-add-t6 : tie.Need-add-t6
-add-t6 c = search needs
+add-c : tie.Need-add-c
+add-c c = search needs
 
 returns : tie.Need-returns
 returns c = search begun-is
@@ -25,5 +29,5 @@ begun-spec =
     kept-agreement-requires
     kept-agreement-requires-2
     kept-proposals-requires
-    add-t6
+    add-c
     returns)

@@ -1,10 +1,15 @@
-use Rattle.calls.proofs.DecidingLaws.{decision-before, decide-none, decide-some}
+use Rattle.calls.proofs.DecidingLaws.{decide-none, decide-some, decision-settling}
 use borrow.Author.Needs.{needs}
 use Rattle.calls.proofs.deciding.decide.Statement.{statement}
 use Rattle.calls.proofs.deciding.decide.Tie as tie
+use Rattle.calls.proofs.deciding.decide.Reads as reads
+use Rattle.calls.proofs.deciding.decide.Lts as lts
+use Rattle.calls.proofs.deciding.settle.Reads as settle-reads
+use Rattle.calls.proofs.seeing.place_before.Reads as place-before-reads
+use Rattle.calls.proofs.seeing.used.Reads as used-reads
 
-decision-requires : tie.Need-decision-requires
-decision-requires c κs = search needs
+used-requires : tie.Need-used-requires
+used-requires c κs = search needs
 
 enum-known-i : tie.Need-enum-known-i
 enum-known-i c = search needs
@@ -25,7 +30,7 @@ place-before-requires : tie.Need-place-before-requires
 place-before-requires c κs = search needs
 
 settle-requires : tie.Need-settle-requires
-settle-requires c κs = (search needs, search decision-before)
+settle-requires c κs = search decision-settling
 
 same-length-3 : tie.Need-same-length-3
 same-length-3 c = search needs
@@ -40,7 +45,7 @@ pub decide-spec : {M : Type 1} → statement M
 decide-spec =
     tie.close
     (tie.spec
-    decision-requires
+    used-requires
     enum-known-i
     enum-told
     same-length

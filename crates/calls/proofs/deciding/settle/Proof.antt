@@ -1,7 +1,11 @@
-use Rattle.calls.proofs.DecidingLaws.{settle-extends, settle-stays, settle-parts}
+use Rattle.calls.proofs.DecidingLaws.{settle-extends, settle-parts, settle-stays}
 use borrow.Author.Needs.{needs}
 use Rattle.calls.proofs.deciding.settle.Statement.{statement}
 use Rattle.calls.proofs.deciding.settle.Tie as tie
+use Rattle.calls.proofs.deciding.settle.Reads as reads
+use Rattle.calls.proofs.deciding.settle.Lts as lts
+use Rattle.message.proofs.store.copy.Reads as copy-reads
+use Rattle.message.proofs.store.is_prefix.Reads as is-prefix-reads
 
 cast-old : tie.Need-cast-old
 cast-old c = search needs

@@ -1,4 +1,4 @@
-use Rattle.calls.proofs.CallCases.{filed-even, filed-odd}
+use Rattle.calls.proofs.FilingCases.{filed-even, filed-odd}
 use borrow.Author.Needs.{needs}
 use Rattle.calls.proofs.filing.file_log.Statement.{statement}
 use Rattle.calls.proofs.filing.file_log.Tie as tie

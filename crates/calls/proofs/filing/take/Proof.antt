@@ -1,7 +1,12 @@
-use Rattle.calls.proofs.CallCases.{read-refused, read-log, read-proposal}
+use Rattle.calls.proofs.ReceiveCases.{read-refused, read-log, read-proposal}
 use borrow.Author.Needs.{needs}
 use Rattle.calls.proofs.filing.take.Statement.{statement}
 use Rattle.calls.proofs.filing.take.Tie as tie
+use Rattle.calls.proofs.filing.take.Reads as reads
+use Rattle.calls.proofs.filing.take.Lts as lts
+use Rattle.calls.proofs.filing.take_log.Reads as take-log-reads
+use Rattle.calls.proofs.filing.take_proposal.Reads as take-proposal-reads
+use Rattle.message.proofs.reader.read.Reads as read-reads
 
 read-requires : tie.Need-read-requires
 read-requires c κs = search needs

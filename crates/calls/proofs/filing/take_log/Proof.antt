@@ -1,7 +1,12 @@
-use Rattle.calls.proofs.CallCases.{log-taken, log-shut}
+use Rattle.calls.proofs.ReceiveCases.{log-taken, log-shut}
 use borrow.Author.Needs.{needs}
 use Rattle.calls.proofs.filing.take_log.Statement.{statement}
 use Rattle.calls.proofs.filing.take_log.Tie as tie
+use Rattle.calls.proofs.filing.take_log.Reads as reads
+use Rattle.calls.proofs.filing.take_log.Lts as lts
+use Rattle.calls.proofs.calendar.takes_logs.Reads as takes-logs-reads
+use Rattle.calls.proofs.filing.file_log.Reads as file-log-reads
+use Rattle.calls.proofs.record.beat_of.Reads as beat-of-reads
 
 beat-of-requires : tie.Need-beat-of-requires
 beat-of-requires c κs = search needs

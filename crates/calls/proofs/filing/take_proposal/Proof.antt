@@ -1,7 +1,12 @@
-use Rattle.calls.proofs.CallCases.{proposal-taken, proposal-shut}
+use Rattle.calls.proofs.ReceiveCases.{proposal-taken, proposal-shut}
 use borrow.Author.Needs.{needs}
 use Rattle.calls.proofs.filing.take_proposal.Statement.{statement}
 use Rattle.calls.proofs.filing.take_proposal.Tie as tie
+use Rattle.calls.proofs.filing.take_proposal.Reads as reads
+use Rattle.calls.proofs.filing.take_proposal.Lts as lts
+use Rattle.calls.proofs.calendar.takes_proposals.Reads as takes-proposals-reads
+use Rattle.calls.proofs.filing.file_proposal.Reads as file-proposal-reads
+use Rattle.calls.proofs.record.beat_of.Reads as beat-of-reads
 
 beat-of-requires : tie.Need-beat-of-requires
 beat-of-requires c κs = search needs

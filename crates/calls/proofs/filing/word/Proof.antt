@@ -1,7 +1,9 @@
-use Rattle.calls.proofs.CallCases.{word-first, word-second, word-known}
+use Rattle.calls.proofs.FilingCases.{word-first, word-second, word-known}
 use borrow.Author.Needs.{needs}
 use Rattle.calls.proofs.filing.word.Statement.{statement}
 use Rattle.calls.proofs.filing.word.Tie as tie
+use Rattle.calls.proofs.filing.word.Reads as reads
+use Rattle.calls.proofs.filing.word.Lts as lts
 
 enum-told : tie.Need-enum-told
 enum-told c = search needs

@@ -2,6 +2,11 @@ use Rattle.calls.proofs.LimitCases.{beyond-limits}
 use borrow.Author.Needs.{needs}
 use Rattle.calls.proofs.limits.is_beyond.Statement.{statement}
 use Rattle.calls.proofs.limits.is_beyond.Tie as tie
+use Rattle.calls.proofs.limits.is_beyond.Reads as reads
+use Rattle.calls.proofs.limits.is_beyond.Lts as lts
+use Rattle.calls.proofs.limits.is_beyond_agreement.Reads as is-beyond-agreement-reads
+use Rattle.calls.proofs.limits.is_beyond_proposals.Reads as is-beyond-proposals-reads
+use Rattle.calls.proofs.limits.is_out_of_range.Reads as is-out-of-range-reads
 
 is-out-of-range-requires : tie.Need-is-out-of-range-requires
 is-out-of-range-requires c κs = search needs

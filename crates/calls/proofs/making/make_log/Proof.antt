@@ -28,10 +28,4 @@ returns c = search log-acts
 pub make-log-spec : {M : Type 1} → statement M
 make-log-spec =
     tie.close
-    (tie.spec
-    write-log-requires
-    file-log-requires
-    same-length
-    same-length-2
-    same-length-3
-    returns)
+    (tie.spec write-log-requires file-log-requires same-length same-length-2 same-length-3 returns)

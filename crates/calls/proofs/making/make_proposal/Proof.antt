@@ -7,14 +7,14 @@ use Rattle.calls.proofs.making.make_proposal.Lts as lts
 use Rattle.calls.proofs.filing.file_proposal.Reads as file-proposal-reads
 use Rattle.message.proofs.writer.write_proposal.Reads as write-proposal-reads
 
+add-longer : tie.Need-add-longer
+add-longer c = search needs
+
 write-proposal-requires : tie.Need-write-proposal-requires
 write-proposal-requires c κs = search needs
 
 file-proposal-requires : tie.Need-file-proposal-requires
 file-proposal-requires c κs = search needs
-
-add-t28 : tie.Need-add-t28
-add-t28 c = search needs
 
 same-length : tie.Need-same-length
 same-length c = search needs
@@ -32,9 +32,9 @@ pub make-proposal-spec : {M : Type 1} → statement M
 make-proposal-spec =
     tie.close
     (tie.spec
+    add-longer
     write-proposal-requires
     file-proposal-requires
-    add-t28
     same-length
     same-length-2
     same-length-3

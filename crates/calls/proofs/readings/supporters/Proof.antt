@@ -2,6 +2,9 @@ use Rattle.calls.proofs.ReadingCases.{tally-empty, tally-longest}
 use borrow.Author.Needs.{needs}
 use Rattle.calls.proofs.readings.supporters.Statement.{statement}
 use Rattle.calls.proofs.readings.supporters.Tie as tie
+use Rattle.calls.proofs.readings.supporters.Reads as reads
+use Rattle.calls.proofs.readings.supporters.Lts as lts
+use Rattle.agreement.proofs.tally.supporters.Reads as supporters-reads
 
 enum-known-grade : tie.Need-enum-known-grade
 enum-known-grade c = search needs
@@ -13,13 +16,13 @@ supporters-requires : tie.Need-supporters-requires
 supporters-requires c κs = search needs
 
 returns : tie.Need-returns
-returns c = (search tally-empty, search needs)
+returns c = search tally-empty
 
 supporters-requires-2 : tie.Need-supporters-requires-2
 supporters-requires-2 c κs = search needs
 
 returns-2 : tie.Need-returns-2
-returns-2 c = (search tally-longest, search needs)
+returns-2 c = search tally-longest
 
 pub supporters-spec : {M : Type 1} → statement M
 supporters-spec =

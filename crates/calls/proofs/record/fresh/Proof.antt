@@ -2,6 +2,10 @@ use Rattle.calls.proofs.RecordCases.{fresh-is}
 use borrow.Author.Needs.{needs}
 use Rattle.calls.proofs.record.fresh.Statement.{statement}
 use Rattle.calls.proofs.record.fresh.Tie as tie
+use Rattle.calls.proofs.record.fresh.Reads as reads
+use Rattle.calls.proofs.record.fresh.Lts as lts
+use Rattle.agreement.proofs.empty.Reads as empty-reads
+use Rattle.agreement.proofs.proposing.empty.Reads as proposing-empty-reads
 
 empty-requires : tie.Need-empty-requires
 empty-requires c κs = search needs

@@ -2,6 +2,9 @@ use Rattle.calls.proofs.RecordCases.{place-even, place-odd}
 use borrow.Author.Needs.{needs}
 use Rattle.calls.proofs.record.logs_place.Statement.{statement}
 use Rattle.calls.proofs.record.logs_place.Tie as tie
+use Rattle.calls.proofs.record.logs_place.Reads as reads
+use Rattle.calls.proofs.record.logs_place.Lts as lts
+use Rattle.calls.proofs.record.is_even.Reads as is-even-reads
 
 is-even-requires : tie.Need-is-even-requires
 is-even-requires c κs = search needs

@@ -1,11 +1,16 @@
-use Rattle.agreement.proofs.ChoiceLaws.{best-place}
 use Rattle.calls.proofs.SeeingLaws.{ballot-none, ballot-lock, ballot-proposal}
+use Rattle.agreement.proofs.ChoiceLaws.{best-place}
 use borrow.Author.Needs.{needs}
 use Rattle.calls.proofs.seeing.ballot.Statement.{statement}
 use Rattle.calls.proofs.seeing.ballot.Tie as tie
+use Rattle.calls.proofs.seeing.ballot.Reads as reads
+use Rattle.calls.proofs.seeing.ballot.Lts as lts
+use Rattle.calls.proofs.seeing.best.Reads as best-reads
+use Rattle.calls.proofs.seeing.place_before.Reads as place-before-reads
+use Rattle.calls.proofs.seeing.used.Reads as used-reads
 
-lock-requires : tie.Need-lock-requires
-lock-requires c κs = search needs
+used-requires : tie.Need-used-requires
+used-requires c κs = search needs
 
 enum-known-i : tie.Need-enum-known-i
 enum-known-i c = search needs
@@ -19,14 +24,11 @@ returns c = search ballot-none
 place-before-requires : tie.Need-place-before-requires
 place-before-requires c κs = search needs
 
-cast-long : tie.Need-cast-long
-cast-long c = search needs
+cast-best : tie.Need-cast-best
+cast-best c = search needs
 
-proposals-of-requires : tie.Need-proposals-of-requires
-proposals-of-requires c κs = search needs
-
-choose-requires : tie.Need-choose-requires
-choose-requires c κs = search needs
+best-requires : tie.Need-best-requires
+best-requires c κs = search needs
 
 enum-known-choice : tie.Need-enum-known-choice
 enum-known-choice c = search needs
@@ -37,20 +39,20 @@ enum-told-2 c = search needs
 returns-2 : tie.Need-returns-2
 returns-2 c = search ballot-lock
 
-cast-best : tie.Need-cast-best
-cast-best c = search needs
+cast-sender : tie.Need-cast-sender
+cast-sender c = search needs
 
-cast-place : tie.Need-cast-place
-cast-place c = search needs
+cast-t16 : tie.Need-cast-t16
+cast-t16 c = search needs
 
-mul-place : tie.Need-mul-place
-mul-place c = search needs
+mul-t17 : tie.Need-mul-t17
+mul-t17 c = search needs
 
-add-place : tie.Need-add-place
-add-place c = search needs
+add-t18 : tie.Need-add-t18
+add-t18 c = search needs
 
-array-read-t20 : tie.Need-array-read-t20
-array-read-t20 c = search best-place
+element-copy-out-t21 : tie.Need-element-copy-out-t21
+element-copy-out-t21 c = search best-place
 
 returns-3 : tie.Need-returns-3
 returns-3 c = search ballot-proposal
@@ -59,20 +61,19 @@ pub ballot-spec : {M : Type 1} → statement M
 ballot-spec =
     tie.close
     (tie.spec
-    lock-requires
+    used-requires
     enum-known-i
     enum-told
     returns
     place-before-requires
-    cast-long
-    proposals-of-requires
-    choose-requires
+    cast-best
+    best-requires
     enum-known-choice
     enum-told-2
     returns-2
-    cast-best
-    cast-place
-    mul-place
-    add-place
-    array-read-t20
+    cast-sender
+    cast-t16
+    mul-t17
+    add-t18
+    element-copy-out-t21
     returns-3)

@@ -2,6 +2,9 @@ use Rattle.calls.proofs.SeeingLaws.{place-first, place-later}
 use borrow.Author.Needs.{needs}
 use Rattle.calls.proofs.seeing.place_before.Statement.{statement}
 use Rattle.calls.proofs.seeing.place_before.Tie as tie
+use Rattle.calls.proofs.seeing.place_before.Reads as reads
+use Rattle.calls.proofs.seeing.place_before.Lts as lts
+use Rattle.calls.proofs.record.logs_place.Reads as logs-place-reads
 
 mul-result : tie.Need-mul-result
 mul-result c = search needs

@@ -8,11 +8,17 @@ use Rattle.run.proofs.lines.put_first_line.Lts as lts
 use Rattle.run.proofs.lines.put_numbered.Reads as put-numbered-reads
 use Rattle.run.proofs.texts.put_word.Reads as put-word-reads
 
+shared-slice-read-own : tie.Need-shared-slice-read-own
+shared-slice-read-own c = search needs
+
+shared-slice-read-benches : tie.Need-shared-slice-read-benches
+shared-slice-read-benches c = search needs
+
 slice-aggregate-put-numbered : tie.Need-slice-aggregate-put-numbered
 slice-aggregate-put-numbered c = search needs
 
-shared-slice-read-put-numbered : tie.Need-shared-slice-read-put-numbered
-shared-slice-read-put-numbered c = search needs
+cast-put-numbered : tie.Need-cast-put-numbered
+cast-put-numbered c = omega (arith, c .before .before .shared-slice-known3 .given 1)
 
 put-numbered-requires : tie.Need-put-numbered-requires
 put-numbered-requires c κs = search needs
@@ -20,8 +26,8 @@ put-numbered-requires c κs = search needs
 slice-aggregate-put-numbered-2 : tie.Need-slice-aggregate-put-numbered-2
 slice-aggregate-put-numbered-2 c = search needs
 
-shared-slice-read-put-numbered-2 : tie.Need-shared-slice-read-put-numbered-2
-shared-slice-read-put-numbered-2 c = search needs
+cast-put-numbered-2 : tie.Need-cast-put-numbered-2
+cast-put-numbered-2 c = omega (arith, c .before .before .before .before .before .before .before .shared-slice-known3 .given 0)
 
 put-numbered-requires-2 : tie.Need-put-numbered-requires-2
 put-numbered-requires-2 c κs = search needs
@@ -42,11 +48,13 @@ pub put-first-line-spec : {M : Type 1} → statement M
 put-first-line-spec =
     tie.close
     (tie.spec
+    shared-slice-read-own
+    shared-slice-read-benches
     slice-aggregate-put-numbered
-    shared-slice-read-put-numbered
+    cast-put-numbered
     put-numbered-requires
     slice-aggregate-put-numbered-2
-    shared-slice-read-put-numbered-2
+    cast-put-numbered-2
     put-numbered-requires-2
     slice-aggregate-put-word
     put-word-requires

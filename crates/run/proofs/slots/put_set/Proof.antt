@@ -8,6 +8,9 @@ use Rattle.run.specs.Page.{flagsFrom, setBytes}
 use borrow.Author.Needs.{needs}
 use Rattle.run.proofs.slots.put_set.Statement.{statement}
 use Rattle.run.proofs.slots.put_set.Tie as tie
+use Rattle.run.proofs.slots.put_set.Reads as reads
+use Rattle.run.proofs.slots.put_set.Lts as lts
+use Rattle.agreement.proofs.sets.is_member.Reads as is-member-reads
 
 abbrev Inv-loop : tie.InvT-loop
 Inv-loop page₀ at set p₀ i₀ page p i = (i ≤ 32) × (p ≡ at + i) × (at + 32 ≤ length page) × (length page ≡ length page₀) × (put page₀ at (setBytes set) ≡ put page p (flagsFrom set i (32 - i)))
@@ -18,11 +21,14 @@ abbrev μ-loop : tie.MeasureT-loop
 loop-holds : tie.Need-loop-holds Inv-loop μ-loop
 loop-holds c = (search needs, search needs, search needs, refl, refl)
 
-array-read-flag-of : tie.Need-array-read-flag-of Inv-loop μ-loop
-array-read-flag-of c = search needs
+cast-is-member : tie.Need-cast-is-member Inv-loop μ-loop
+cast-is-member c = search needs
 
-flag-of-requires : tie.Need-flag-of-requires Inv-loop μ-loop
-flag-of-requires c κs = search needs
+is-member-requires : tie.Need-is-member-requires Inv-loop μ-loop
+is-member-requires c κs = search needs
+
+cast-page : tie.Need-cast-page Inv-loop μ-loop
+cast-page c = search needs
 
 slice-write-page : tie.Need-slice-write-page Inv-loop μ-loop
 slice-write-page c = search needs
@@ -52,8 +58,9 @@ put-set-spec =
     Inv-loop
     μ-loop
     loop-holds
-    array-read-flag-of
-    flag-of-requires
+    cast-is-member
+    is-member-requires
+    cast-page
     slice-write-page
     add-p
     add-i

@@ -41,6 +41,7 @@ use denote.Triple.Table.{entered, cited}
 use denote.Triple.Walked.{says, Stays, gave-slice, stay-dropped, walkOf, AllGo, goes-gave-slice, goes-dropped, Walks, ends-at, walked, walk-meets}
 use Rattle.bench.specs.ByRecord.{beginOf, receiveOf, actOf}
 use Rattle.bench.specs.Answers.{stateOf, BeginGives, ReceiveGives, ActGives}
+use Rattle.bench.specs.Record.{benchOf}
 use Rattle.bench.specs.declared.Bench.{Bench}
 use Rattle.bench.specs.declared.Start.{Start}
 use Rattle.bench.specs.declared.Taken.{Taken}
@@ -82,18 +83,18 @@ IsBench h v = Is T.the-row h (v ∷ [])
 
 -- ---- what a caller has learned once a call has returned w: what the call gives, the answer's relation to w, the record's to what lies in the local, and that the lists are as long as they were
 record Begun (h : Bench) (ns cs : List ℕ) (beat : ℕ) (r : Start) (h′ : Bench) (w : Val) : Type 0 where
-  gives : BeginGives (beginOf (stateOf h ns cs) beat) (record { answer = r; bench = h′ }) ns cs
+  gives : BeginGives (beginOf (stateOf h ns cs) beat) r (benchOf h′) ns cs
   answer : Is TS.the-row r (w ∷ [])
   left : IsBench h′ (benchVal h′)
 
 record Took (h : Bench) (ns cs message : List ℕ) (r : Taken) (h′ : Bench) (ms ds : List ℕ) (w : Val) : Type 0 where
-  gives : ReceiveGives (receiveOf (stateOf h ns cs) message) (record { answer = r; bench = h′ }) ms ds
+  gives : ReceiveGives (receiveOf (stateOf h ns cs) message) r (benchOf h′) ms ds
   answer : Is TT.the-row r (w ∷ [])
   left : IsBench h′ (benchVal h′)
   longs : (length ms ≡ length ns) × (length ds ≡ length cs)
 
 record Did (h : Bench) (ns cs : List ℕ) (name count priority : ℕ) (out : List ℕ) (r : Made) (h′ : Bench) (ms ds us : List ℕ) (w : Val) : Type 0 where
-  gives : ActGives (actOf (stateOf h ns cs) (record { name = name; count = count }) priority out) (record { answer = r; bench = h′ }) ms ds us
+  gives : ActGives (actOf (stateOf h ns cs) (record { name = name; count = count }) priority out) r (benchOf h′) ms ds us
   answer : Is TM.the-row r (w ∷ [])
   left : IsBench h′ (benchVal h′)
   longs : (length ms ≡ length ns) × ((length ds ≡ length cs) × (length us ≡ length out))
@@ -228,7 +229,7 @@ module _ {M : Type 1} (𝓤 : URA M) (H : Heap 𝓤) (A : Atoms 𝓤) (W : Given
     KeptBegin n = fsep (KeptBench (n .0)) (fsep (KeptShr u64 κ₁ q₁ γ₁ b₁ o₁ ns (n .1 .0)) (KeptShr u16 κ₂ q₂ γ₂ b₂ o₂ cs (n .1 .1)))
 
     abbrev beg-does : Start → Bench → Type 0
-    beg-does r h′ = BeginGives (beginOf (stateOf h ns cs) beat) (record { answer = r; bench = h′ }) ns cs
+    beg-does r h′ = BeginGives (beginOf (stateOf h ns cs) beat) r (benchOf h′) ns cs
 
     to-begin : (v : Val) → IsBench h v → beat < 2 ^ 32
         → ent 𝓤 (Has v ns cs) (H .⇛ (ex 𝓤 (λ (n : Loans). sep 𝓤 (Beg 𝓤 H A at-mem run .pre (beg-ghost n)) (sem 𝓤 H A (KeptBegin n)))))
@@ -302,7 +303,7 @@ module _ {M : Type 1} (𝓤 : URA M) (H : Heap 𝓤) (A : Atoms 𝓤) (W : Given
       KeptReceive n = fsep (KeptBench (n .0)) (fsep (KeptMut u64 κ₁ q₁ γ₁ b₁ o₁ ns (n .1 .0)) (KeptMut u16 κ₂ q₂ γ₂ b₂ o₂ cs (n .1 .1)))
 
       abbrev rec-does : Taken → Bench → List ℕ → List ℕ → Type 0
-      rec-does r h′ ms ds = ReceiveGives (receiveOf (stateOf g ns cs) (x₄ .now)) (record { answer = r; bench = h′ }) ms ds
+      rec-does r h′ ms ds = ReceiveGives (receiveOf (stateOf g ns cs) (x₄ .now)) r (benchOf h′) ms ds
 
       abbrev AfterReceive : Val → ReceiveLeft → SProp 𝓤
       AfterReceive w p = guard 𝓤 (Took g ns cs (x₄ .now) (p .0) (p .1 .0) (p .1 .1 .0) (p .1 .1 .1) w)
@@ -390,7 +391,7 @@ module _ {M : Type 1} (𝓤 : URA M) (H : Heap 𝓤) (A : Atoms 𝓤) (W : Given
 
       abbrev act-does : Made → Bench → List ℕ → List ℕ → List ℕ → Type 0
       act-does r h′ ms′ ds′ us = ActGives (actOf (stateOf g ms ds) (record { name = name; count = count }) priority (x₃ .now))
-          (record { answer = r; bench = h′ }) ms′ ds′ us
+          r (benchOf h′) ms′ ds′ us
 
       abbrev AfterAct : Val → ActLeft → SProp 𝓤
       AfterAct w p = guard 𝓤 (Did g ms ds name count priority (x₃ .now) (p .0) (p .1 .0) (p .1 .1 .0) (p .1 .1 .1 .0) (p .1 .1 .1 .1) w)

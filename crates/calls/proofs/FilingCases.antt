@@ -1,0 +1,137 @@
+-- Filing, as the code does it: in the slot of the view's parity, or among the proposals. Assumes nothing.
+use Prim.Native.Nat.{ℕ}
+use mathlib.Core.Bool.{Bool, true, false}
+use mathlib.Core.List.{List}
+use mathlib.Core.Path.{_≡_, refl, ap, subst, _∙_}
+use Rattle.agreement.specs.Filing.{Files, fileOf, wordOf}
+use Rattle.agreement.specs.Record.{Agreement, agreementFrom}
+use Rattle.agreement.specs.Proposals.{Proposals, proposalsFrom, FilesProposal, fileProposalOf}
+use Rattle.agreement.specs.declared.Marks.{Marks}
+use Rattle.agreement.specs.declared.Shown.{Shown}
+use Rattle.agreement.specs.declared.Answer.{Answer}
+use Rattle.agreement.specs.declared.Answer.the-variants as words
+use Rattle.agreement.specs.declared.Filed.{Filed}
+use Rattle.agreement.specs.declared.FiledProposal.{FiledProposal}
+use Rattle.bench.specs.Layout.{isEven, logsPlace, proposalsPlace}
+use Rattle.bench.specs.Calls.{took}
+use Rattle.bench.specs.Record.{Bench, benchFrom, ofView, agreementOf, proposedIn, proposalsOf, withAgreement, withProposals}
+use Rattle.bench.specs.ByRecord.{fileLog, taken}
+use Rattle.bench.specs.Answers.{heldWith, takenReply, ReceiveGives}
+use Rattle.bench.specs.declared.Head.{Head}
+use Rattle.bench.specs.declared.Taken.{Taken}
+use Rattle.bench.specs.declared.Taken.the-variants as takings
+use Rattle.calls.specs.Steps.{LogFiled, ProposalFiled}
+
+pub word-first : (a : Answer) → a ≡ words.First → takenReply takings.First ≡ took (wordOf a)
+unfolding takenReply
+word-first a e = rw e
+
+pub word-second : (a : Answer) → a ≡ words.Second → takenReply takings.Second ≡ took (wordOf a)
+unfolding takenReply
+word-second a e = rw e
+
+pub word-known : (a : Answer) → a ≡ words.Known → takenReply takings.Known ≡ took (wordOf a)
+unfolding takenReply
+word-known a e = rw e
+
+-- ---- the head with another agreement, or other proposals
+
+abbrev pub evenHead : Head → Marks → Head
+evenHead h m = record { next = h .next; n = h .n; own = h .own; decided = h .decided; parted = h .parted; gathering = h .gathering; even = m; odd = h .odd; shown = h .shown }
+
+abbrev pub oddHead : Head → Marks → Head
+oddHead h m = record { next = h .next; n = h .n; own = h .own; decided = h .decided; parted = h .parted; gathering = h .gathering; even = h .even; odd = m; shown = h .shown }
+
+abbrev pub shownHead : Head → Shown → Head
+shownHead h m = record { next = h .next; n = h .n; own = h .own; decided = h .decided; parted = h .parted; gathering = h .gathering; even = h .even; odd = h .odd; shown = m }
+
+-- ---- by the parity of the view: what is read of the record, and what is stored
+
+-- the record with these agreements
+abbrev pub stored : Bench → Agreement → Agreement → Bench
+stored b even odd = record {
+  n = b .n;
+  own = b .own;
+  next = b .next;
+  gathering = b .gathering;
+  even = even;
+  odd = odd;
+  proposals = b .proposals;
+  decided = b .decided;
+  parted = b .parted;
+}
+
+module _ (r : Bool) (v : ℕ) (q : r ≡ isEven v) (b : Bench) where
+  pub read-even : r ≡ true → ofView (b .even) v ≡ agreementOf b v
+  unfolding agreementOf
+  read-even t = rw (← q, t)
+
+  pub read-odd : r ≡ false → ofView (b .odd) v ≡ agreementOf b v
+  unfolding agreementOf
+  read-odd t = rw (← q, t)
+
+  pub stored-even : r ≡ true → (f g : Agreement) → f ≡ g → stored b f (b .odd) ≡ withAgreement b v g
+  unfolding withAgreement
+  stored-even t f g e = rw (← q, t, e)
+
+  pub stored-odd : r ≡ false → (f g : Agreement) → f ≡ g → stored b (b .even) f ≡ withAgreement b v g
+  unfolding withAgreement
+  stored-odd t f g e = rw (← q, t, e)
+
+-- ---- a LOG
+
+module _ (names counts bytes : List ℕ) (v i : ℕ) (m : Marks) (base : ℕ) (at : base ≡ logsPlace v) (f : Filed)
+    (w : Taken) (answered : takenReply w ≡ took (wordOf (f .answer))) (ls ls′ ns cs : List ℕ) (d : Files (fileOf (agreementFrom m ls) names counts base bytes i) f ls′ ns cs) where
+  log-filed : (b c : Bench) → agreementFrom m ls ≡ agreementOf b v → ((g : Agreement) → agreementFrom (f .marks) ls′ ≡ g → c ≡ withAgreement b v g)
+      → ReceiveGives (taken (fileLog (heldWith b names counts) bytes v i)) w c ns cs
+  log-filed b c g kept =
+      let x : Files (fileOf (agreementOf b v) names counts (logsPlace v) bytes i) f ls′ ns cs =
+      subst (λ (a : Agreement). Files (fileOf a names counts (logsPlace v) bytes i) f ls′ ns cs) g (subst (λ (k : ℕ). Files (fileOf (agreementFrom m ls) names counts k bytes i) f ls′ ns cs) at d) in
+      record {
+        answered = answered ∙ ap took (x .answered);
+        bench = kept _ (λ j. record { marks = x .marks j; lengths = x .lengthList j });
+        nameList = x .nameList;
+        countList = x .countList;
+      }
+
+  module _ (h : Head) (e o : List ℕ) (r : Bool) (q : r ≡ isEven v) where
+    pub filed-even : r ≡ true → agreementFrom m ls ≡ ofView (agreementFrom (h .even) e) v
+        → LogFiled h e o names counts bytes v i (record { answer = w; head = evenHead h (f .marks) }) ls′ o ns cs
+    filed-even t g = record {
+      whole = λ p s.
+          let b = benchFrom h e o p s in
+          log-filed b (benchFrom (evenHead h (f .marks)) ls′ o p s) (g ∙ read-even r v q b t) (stored-even r v q b t (agreementFrom (f .marks) ls′));
+    }
+
+    pub filed-odd : r ≡ false → agreementFrom m ls ≡ ofView (agreementFrom (h .odd) o) v
+        → LogFiled h e o names counts bytes v i (record { answer = w; head = oddHead h (f .marks) }) e ls′ ns cs
+    filed-odd t g = record {
+      whole = λ p s.
+          let b = benchFrom h e o p s in
+          log-filed b (benchFrom (oddHead h (f .marks)) e ls′ p s) (g ∙ read-odd r v q b t) (stored-odd r v q b t (agreementFrom (f .marks) ls′));
+    }
+
+-- ---- a PROPOSAL
+
+module _ (b : Bench) (v : ℕ) where
+  read-proposed : proposedIn (b .proposals) v ≡ proposalsOf b v
+  unfolding proposalsOf
+  read-proposed = refl
+
+module _ (h : Head) (p q names counts bytes : List ℕ) (v i priority : ℕ) (m : Shown) (f : FiledProposal)
+    (w : Taken) (answered : takenReply w ≡ took (wordOf (f .answer))) (ls ps ls′ ps′ ns cs : List ℕ)
+    (d : FilesProposal (fileProposalOf (proposalsFrom m ls ps) names counts proposalsPlace bytes i priority) f ls′ ps′ ns cs) where
+  pub filed-proposal : proposalsFrom m ls ps ≡ proposedIn (proposalsFrom (h .shown) p q) v
+      → ProposalFiled h p q names counts bytes v i priority (record { answer = w; head = shownHead h (f .marks) }) ls′ ps′ ns cs
+  filed-proposal g = record {
+    whole = λ e o.
+        let b = benchFrom h e o p q in
+        let x : FilesProposal (fileProposalOf (proposalsOf b v) names counts proposalsPlace bytes i priority) f ls′ ps′ ns cs =
+        subst (λ (a : Proposals). FilesProposal (fileProposalOf a names counts proposalsPlace bytes i priority) f ls′ ps′ ns cs) (g ∙ read-proposed b v) d in
+        record {
+          answered = answered ∙ ap took (x .answered);
+          bench = ap {A = Proposals} {B = Bench} (withProposals b) (λ j. record { marks = x .marks j; lengths = x .lengthList j; priorities = x .priorityList j });
+          nameList = x .nameList;
+          countList = x .countList;
+        };
+  }

@@ -1,0 +1,68 @@
+-- Receiving, case by case, as the code finds them: what was read, and whether its view is open. Assumes nothing.
+use Prim.Native.Nat.{ℕ}
+use mathlib.Core.Bool.{Bool, true, false}
+use mathlib.Core.List.{List, []}
+use mathlib.Core.Path.{_≡_, refl, ap, _∙_}
+use Rattle.message.specs.Message.{readOf, readingOf}
+use Rattle.message.specs.declared.Head as message
+use Rattle.message.specs.declared.Message.{Message}
+use Rattle.message.specs.declared.Message.the-variants as answers
+use Rattle.message.proofs.Readings.{read-as-log, read-as-proposal, read-as-refused}
+use Rattle.bench.specs.Calendar.{logWindow, proposalWindow}
+use Rattle.bench.specs.Calls.{Step}
+use Rattle.bench.specs.Record.{Bench, benchFrom, beatOf}
+use Rattle.bench.specs.ByRecord.{refuse, fileMessage, receives}
+use Rattle.bench.specs.Answers.{heldWith, takenReply, ReceiveGives}
+use Rattle.bench.specs.declared.Head.{Head}
+use Rattle.bench.specs.declared.Taken.the-variants as takings
+use Rattle.bench.specs.declared.ReceivedHead.{ReceivedHead}
+use Rattle.calls.specs.Steps.{bare, LogFiled, LogTaken, ProposalFiled, ProposalTaken}
+
+-- refused by k: all is as it was
+pub receive-by : (b : Bench) (names counts : List ℕ) (k : ℕ) (t : Step) → t ≡ refuse (heldWith b names counts) [] k
+    → ReceiveGives t (takings.Refused k) b names counts
+unfolding takenReply
+receive-by b names counts k t o = rw o (record { answered = refl; bench = refl; nameList = refl; countList = refl })
+
+-- ---- by its window
+
+module _ (h : Head) (names counts bytes : List ℕ) (head : message.Head) (beat : ℕ) (r : Bool) (now : beat ≡ beatOf (bare h)) where
+  module _ (e o : List ℕ) (q : r ≡ logWindow (head .view) beat) where
+    pub log-shut : r ≡ false → LogTaken h e o names counts bytes head (record { answer = takings.Refused 21; head = h }) e o names counts
+    unfolding takenReply
+    log-shut t = record { whole = λ p s. rw (← now, ← q, t) (record { answered = refl; bench = refl; nameList = refl; countList = refl }) }
+
+    pub log-taken : (x : ReceivedHead) (e′ o′ ns cs : List ℕ) → r ≡ true → LogFiled h e o names counts bytes (head .view) (head .sender) x e′ o′ ns cs
+        → LogTaken h e o names counts bytes head x e′ o′ ns cs
+    unfolding fileMessage
+    log-taken x e′ o′ ns cs t f = record { whole = λ p s. rw (← now, ← q, t) (f .whole p s) }
+
+  module _ (p s : List ℕ) (priority : ℕ) (q : r ≡ proposalWindow (head .view) beat) where
+    pub proposal-shut : r ≡ false → ProposalTaken h p s names counts bytes head priority (record { answer = takings.Refused 21; head = h }) p s names counts
+    unfolding takenReply
+    proposal-shut t = record { whole = λ e o. rw (← now, ← q, t) (record { answered = refl; bench = refl; nameList = refl; countList = refl }) }
+
+    pub proposal-taken : (x : ReceivedHead) (p′ s′ ns cs : List ℕ) → r ≡ true
+        → ProposalFiled h p s names counts bytes (head .view) (head .sender) priority x p′ s′ ns cs → ProposalTaken h p s names counts bytes head priority x p′ s′ ns cs
+    unfolding fileMessage
+    proposal-taken x p′ s′ ns cs t f = record { whole = λ e o. rw (← now, ← q, t) (f .whole e o) }
+
+-- ---- by what was read
+
+module _ (h : Head) (e o p s names counts bytes : List ℕ) (m : Message) (q : readingOf bytes m ≡ readOf (h .n) bytes) where
+  abbrev b : Bench
+  b = benchFrom h e o p s
+
+  pub read-refused : (k : ℕ) → m ≡ answers.Refused k
+      → ReceiveGives (receives (heldWith b names counts) bytes (readOf (h .n) bytes)) (takings.Refused k) b names counts
+  read-refused k r =
+      receive-by b names counts k (receives (heldWith b names counts) bytes (readOf (h .n) bytes)) (ap (receives (heldWith b names counts) bytes) (read-as-refused (h .n) bytes m k q r))
+
+  module _ (head : message.Head) (x : ReceivedHead) (ns cs : List ℕ) where
+    pub read-log : (e′ o′ : List ℕ) → m ≡ answers.Log head → LogTaken h e o names counts bytes head x e′ o′ ns cs
+        → ReceiveGives (receives (heldWith b names counts) bytes (readOf (h .n) bytes)) (x .answer) (benchFrom (x .head) e′ o′ p s) ns cs
+    read-log e′ o′ r f = rw (read-as-log (h .n) bytes m head q r) (f .whole p s)
+
+    pub read-proposal : (p′ s′ : List ℕ) (priority : ℕ) → m ≡ answers.Proposal head priority → ProposalTaken h p s names counts bytes head priority x p′ s′ ns cs
+        → ReceiveGives (receives (heldWith b names counts) bytes (readOf (h .n) bytes)) (x .answer) (benchFrom (x .head) e o p′ s′) ns cs
+    read-proposal p′ s′ priority r f = rw (read-as-proposal (h .n) bytes m head priority q r) (f .whole e o)

@@ -1,0 +1,71 @@
+use Rattle.calls.proofs.CallCases.{receive-by-22, receive-by-8, receive-by-9, receives-by}
+use borrow.Author.Needs.{needs}
+use Rattle.calls.proofs.parts.receive.Statement.{statement}
+use Rattle.calls.proofs.parts.receive.Tie as tie
+use Rattle.calls.proofs.parts.receive.Reads as reads
+use Rattle.calls.proofs.parts.receive.Lts as lts
+use Rattle.calls.proofs.filing.take.Reads as take-reads
+use Rattle.calls.proofs.limits.is_beyond.Reads as is-beyond-reads
+use Rattle.calls.proofs.limits.is_short.Reads as is-short-reads
+use Rattle.calls.proofs.record.is_idle.Reads as is-idle-reads
+
+is-beyond-requires : tie.Need-is-beyond-requires
+is-beyond-requires c κs = search needs
+
+returns : tie.Need-returns
+returns c = search receive-by-9
+
+is-short-requires : tie.Need-is-short-requires
+is-short-requires c κs = search needs
+
+same-length : tie.Need-same-length
+same-length c = search needs
+
+same-length-2 : tie.Need-same-length-2
+same-length-2 c = search needs
+
+returns-2 : tie.Need-returns-2
+returns-2 c = search receive-by-8
+
+is-idle-requires : tie.Need-is-idle-requires
+is-idle-requires c κs = search needs
+
+same-length-3 : tie.Need-same-length-3
+same-length-3 c = search needs
+
+same-length-4 : tie.Need-same-length-4
+same-length-4 c = search needs
+
+returns-3 : tie.Need-returns-3
+returns-3 c = search receive-by-22
+
+take-requires : tie.Need-take-requires
+take-requires c κs = search needs
+
+same-length-5 : tie.Need-same-length-5
+same-length-5 c = search needs
+
+same-length-6 : tie.Need-same-length-6
+same-length-6 c = search needs
+
+returns-4 : tie.Need-returns-4
+returns-4 c = search receives-by
+
+pub receive-spec : {M : Type 1} → statement M
+receive-spec =
+    tie.close
+    (tie.spec
+    is-beyond-requires
+    returns
+    is-short-requires
+    same-length
+    same-length-2
+    returns-2
+    is-idle-requires
+    same-length-3
+    same-length-4
+    returns-3
+    take-requires
+    same-length-5
+    same-length-6
+    returns-4)
