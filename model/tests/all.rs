@@ -9,6 +9,9 @@ mod volumes;
 #[path = "../src/bin/bench.rs"]
 mod bench;
 #[allow(dead_code)]
+#[path = "../src/bin/counts.rs"]
+mod counts;
+#[allow(dead_code)]
 #[path = "../src/bin/sketch.rs"]
 mod sketch;
 #[allow(dead_code)]

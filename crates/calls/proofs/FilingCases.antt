@@ -80,13 +80,21 @@ module _ (r : Bool) (v : ℕ) (q : r ≡ isEven v) (b : Bench) where
 
 -- ---- a LOG
 
-module _ (names counts bytes : List ℕ) (v i : ℕ) (m : Marks) (base : ℕ) (at : base ≡ logsPlace v) (f : Filed)
-    (w : Taken) (answered : takenReply w ≡ took (wordOf (f .answer))) (ls ls′ ns cs : List ℕ) (d : Files (fileOf (agreementFrom m ls) names counts base bytes i) f ls′ ns cs) where
-  log-filed : (b c : Bench) → agreementFrom m ls ≡ agreementOf b v → ((g : Agreement) → agreementFrom (f .marks) ls′ ≡ g → c ≡ withAgreement b v g)
+-- in a slot, once what it holds of another view is gone
+pub slot-filed : (names counts bytes : List ℕ) (v i base : ℕ) (m : Marks) (ls : List ℕ) (g : Agreement) (f : Filed) (ls′ ns cs : List ℕ) → base ≡ logsPlace v
+    → agreementFrom m ls ≡ ofView g v → Files (fileOf (agreementFrom m ls) names counts base bytes i) f ls′ ns cs
+    → Files (fileOf (ofView g v) names counts (logsPlace v) bytes i) f ls′ ns cs
+slot-filed names counts bytes v i base m ls g f ls′ ns cs at e d =
+    subst (λ (a : Agreement). Files (fileOf a names counts (logsPlace v) bytes i) f ls′ ns cs) e
+    (subst (λ (k : ℕ). Files (fileOf (agreementFrom m ls) names counts k bytes i) f ls′ ns cs) at d)
+
+module _ (names counts bytes : List ℕ) (v i : ℕ) (f : Filed) (w : Taken) (answered : takenReply w ≡ took (wordOf (f .answer))) (ls′ ns cs : List ℕ) where
+  log-filed : (g : Agreement) (b c : Bench) → ofView g v ≡ agreementOf b v → Files (fileOf (ofView g v) names counts (logsPlace v) bytes i) f ls′ ns cs
+      → ((a : Agreement) → agreementFrom (f .marks) ls′ ≡ a → c ≡ withAgreement b v a)
       → ReceiveGives (taken (fileLog (heldWith b names counts) bytes v i)) w c ns cs
-  log-filed b c g kept =
+  log-filed g b c e d kept =
       let x : Files (fileOf (agreementOf b v) names counts (logsPlace v) bytes i) f ls′ ns cs =
-      subst (λ (a : Agreement). Files (fileOf a names counts (logsPlace v) bytes i) f ls′ ns cs) g (subst (λ (k : ℕ). Files (fileOf (agreementFrom m ls) names counts k bytes i) f ls′ ns cs) at d) in
+      subst (λ (a : Agreement). Files (fileOf a names counts (logsPlace v) bytes i) f ls′ ns cs) e d in
       record {
         answered = answered ∙ ap took (x .answered);
         bench = kept _ (λ j. record { marks = x .marks j; lengths = x .lengthList j });
@@ -95,20 +103,20 @@ module _ (names counts bytes : List ℕ) (v i : ℕ) (m : Marks) (base : ℕ) (a
       }
 
   module _ (h : Head) (e o : List ℕ) (r : Bool) (q : r ≡ isEven v) where
-    pub filed-even : r ≡ true → agreementFrom m ls ≡ ofView (agreementFrom (h .even) e) v
+    pub filed-even : r ≡ true → Files (fileOf (ofView (agreementFrom (h .even) e) v) names counts (logsPlace v) bytes i) f ls′ ns cs
         → LogFiled h e o names counts bytes v i (record { answer = w; head = evenHead h (f .marks) }) ls′ o ns cs
-    filed-even t g = record {
+    filed-even t d = record {
       whole = λ p s.
           let b = benchFrom h e o p s in
-          log-filed b (benchFrom (evenHead h (f .marks)) ls′ o p s) (g ∙ read-even r v q b t) (stored-even r v q b t (agreementFrom (f .marks) ls′));
+          log-filed (agreementFrom (h .even) e) b (benchFrom (evenHead h (f .marks)) ls′ o p s) (read-even r v q b t) d (stored-even r v q b t (agreementFrom (f .marks) ls′));
     }
 
-    pub filed-odd : r ≡ false → agreementFrom m ls ≡ ofView (agreementFrom (h .odd) o) v
+    pub filed-odd : r ≡ false → Files (fileOf (ofView (agreementFrom (h .odd) o) v) names counts (logsPlace v) bytes i) f ls′ ns cs
         → LogFiled h e o names counts bytes v i (record { answer = w; head = oddHead h (f .marks) }) e ls′ ns cs
-    filed-odd t g = record {
+    filed-odd t d = record {
       whole = λ p s.
           let b = benchFrom h e o p s in
-          log-filed b (benchFrom (oddHead h (f .marks)) e ls′ p s) (g ∙ read-odd r v q b t) (stored-odd r v q b t (agreementFrom (f .marks) ls′));
+          log-filed (agreementFrom (h .odd) o) b (benchFrom (oddHead h (f .marks)) e ls′ p s) (read-odd r v q b t) d (stored-odd r v q b t (agreementFrom (f .marks) ls′));
     }
 
 -- ---- a PROPOSAL

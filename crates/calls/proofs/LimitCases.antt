@@ -1,7 +1,7 @@
 -- Refusal 9 as the code tests it: set by set. Assumes nothing.
 use Prim.Native.Nat.{ℕ, _+_}
 use lib.Bits.{bitOr}
-use mathlib.Core.Bool.{Bool, not, _&&_, _||_}
+use mathlib.Core.Bool.{Bool, true, false, not, _&&_, _||_}
 use mathlib.Core.List.{List, []}
 use mathlib.Core.Path.{_≡_, refl, sym, ap, _∙_}
 use lib.Dec.{ltb, leb}
@@ -30,31 +30,75 @@ any-place : (p : ℕ → Bool) → anyPlace p ≡ ltb 0 (count mostSenders p)
 unfolding anyPlace
 any-place p = refl
 
+-- ---- sets asked together
+
+meets-or : (t x y : Bool) → (t && (x || y)) ≡ ((t && x) || (t && y))
+meets-or true x y = refl
+meets-or false x y = refl
+
+or-meets : (x y t : Bool) → ((x || y) && t) ≡ ((x && t) || (y && t))
+or-meets true true t = sym (or-same t)
+  where
+    or-same : (t : Bool) → (t || t) ≡ t
+    or-same true = refl
+    or-same false = refl
+or-meets true false true = refl
+or-meets true false false = refl
+or-meets false y t = refl
+
+-- what holds of the places of two sets, and of one that has both
+any-both : (p q r : ℕ → Bool) → ((i : ℕ) → r i ≡ (p i || q i)) → anyPlace r ≡ (anyPlace p || anyPlace q)
+unfolding anyPlace
+any-both p q r h = ap (ltb 0) (weigh-cong mostSenders _ _ _ (λ i l. h i)) ∙ some-or p q
+
+module _ (n a b : ℕ) where
+  beyond-both : anyPlace (namesBeyond n (bitOr a b)) ≡ (anyPlace (namesBeyond n a) || anyPlace (namesBeyond n b))
+  beyond-both =
+      any-both (namesBeyond n a) (namesBeyond n b) (namesBeyond n (bitOr a b))
+      (λ i. ap (λ (t : Bool). leb n i && t) (member-or a b i) ∙ meets-or (leb n i) (member a i) (member b i))
+
+  pub reaches-both : (r : Bool) → r ≡ ltb 0 (count mostSenders (λ (i : ℕ). leb n i && member (bitOr a b) i))
+      → r ≡ (anyPlace (namesBeyond n a) || anyPlace (namesBeyond n b))
+  reaches-both r e = e ∙ sym (any-place (namesBeyond n (bitOr a b))) ∙ beyond-both
+
 -- ---- the sets of an agreement
 
 module _ (n : ℕ) (m : Marks) where
-  heard-or : (set i : ℕ) → (member set i && not (member (bitOr (m .voters) (m .equivocators)) i)) ≡ outside m set i
-  heard-or set i = ap (λ (t : Bool). member set i && not t) (member-or (m .voters) (m .equivocators) i)
+  abbrev heard : ℕ
+  heard = bitOr (m .voters) (m .equivocators)
 
-  exceeding : (set : ℕ) (r : Bool) → r ≡ ltb 0 (count mostSenders (λ (i : ℕ). member set i && not (member (bitOr (m .voters) (m .equivocators)) i)))
-      → r ≡ anyPlace (outside m set)
-  unfolding anyPlace
-  exceeding set r e = e ∙ ap (ltb 0) (weigh-cong mostSenders _ _ _ (λ i l. heard-or set i))
+  abbrev snapped : ℕ
+  snapped = bitOr (m .one .senders) (m .two .senders)
 
-  pub bad-sets : (a b c d e f g : Bool)
-      → a ≡ ltb 0 (count mostSenders (λ (i : ℕ). leb n i && member (m .voters) i))
-      → b ≡ ltb 0 (count mostSenders (λ (i : ℕ). leb n i && member (m .equivocators) i))
-      → c ≡ ltb 0 (count mostSenders (λ (i : ℕ). leb n i && member (m .one .senders) i))
-      → d ≡ ltb 0 (count mostSenders (λ (i : ℕ). leb n i && member (m .two .senders) i))
-      → e ≡ ltb 0 (count mostSenders (λ (i : ℕ). member (m .voters) i && member (m .equivocators) i))
-      → f ≡ ltb 0 (count mostSenders (λ (i : ℕ). member (m .one .senders) i && not (member (bitOr (m .voters) (m .equivocators)) i)))
-      → g ≡ ltb 0 (count mostSenders (λ (i : ℕ). member (m .two .senders) i && not (member (bitOr (m .voters) (m .equivocators)) i)))
-      → (a || (b || (c || (d || (e || (f || g)))))) ≡ badSets n m
-  unfolding badSets anyPlace
-  bad-sets a b c d e f g pa pb pc pd pe pf pg =
-      let x = exceeding (m .one .senders) f pf in
-      let y = exceeding (m .two .senders) g pg in
-      rw (pa, pb, pc, pd, pe, x, y)
+  exceeding : (r : Bool) → r ≡ ltb 0 (count mostSenders (λ (i : ℕ). member snapped i && not (member heard i)))
+      → r ≡ (anyPlace (outside m (m .one .senders)) || anyPlace (outside m (m .two .senders)))
+  exceeding r e =
+      e ∙ sym (any-place (λ (i : ℕ). member snapped i && not (member heard i)))
+      ∙ any-both (outside m (m .one .senders)) (outside m (m .two .senders)) (λ (i : ℕ). member snapped i && not (member heard i))
+      (λ i.
+      ap (λ (t : Bool). member snapped i && not t) (member-or (m .voters) (m .equivocators) i)
+      ∙ ap (λ (t : Bool). t && not (member (m .voters) i || member (m .equivocators) i)) (member-or (m .one .senders) (m .two .senders) i)
+      ∙ or-meets (member (m .one .senders) i) (member (m .two .senders) i) (not (member (m .voters) i || member (m .equivocators) i)))
+
+  pub bad-sets : (a b c : Bool)
+      → a ≡ ltb 0 (count mostSenders (λ (i : ℕ). leb n i && member (bitOr heard snapped) i))
+      → b ≡ ltb 0 (count mostSenders (λ (i : ℕ). member (m .voters) i && member (m .equivocators) i))
+      → c ≡ ltb 0 (count mostSenders (λ (i : ℕ). member snapped i && not (member heard i)))
+      → (a || (b || c)) ≡ badSets n m
+  unfolding badSets
+  bad-sets a b c pa pb pc =
+      let x = reaches-both n heard snapped a pa in
+      let y = beyond-both n (m .voters) (m .equivocators) in
+      let z = beyond-both n (m .one .senders) (m .two .senders) in
+      let w = pb ∙ sym (any-place (λ (i : ℕ). member (m .voters) i && member (m .equivocators) i)) in
+      rw (x, y, z, w, exceeding c pc)
+      (in-a-row (anyPlace (namesBeyond n (m .voters))) (anyPlace (namesBeyond n (m .equivocators))) (anyPlace (namesBeyond n (m .one .senders))) (anyPlace (namesBeyond n (m .two .senders))) _)
+    where
+      in-a-row : (p q r s t : Bool) → (((p || q) || (r || s)) || t) ≡ (p || (q || (r || (s || t))))
+      in-a-row true q r s t = refl
+      in-a-row false true r s t = refl
+      in-a-row false false true s t = refl
+      in-a-row false false false s t = refl
 
 -- the eight tests of one place, each over all places
 module _ (n : ℕ) (m : Marks) (lengths : List ℕ) where
@@ -79,13 +123,13 @@ module _ (n : ℕ) (m : Marks) (lengths : List ℕ) where
       long a e = e ∙ sym (any-place (tooLong lengths))
 
 module _ (n : ℕ) (m : Shown) (lengths : List ℕ) where
-  pub beyond-proposals : (a b c : Bool) → a ≡ ltb 0 (count mostSenders (λ (i : ℕ). ltb mostBlocks (getD lengths i 0)))
-      → b ≡ ltb 0 (count mostSenders (λ (i : ℕ). leb n i && member (m .filed) i)) → c ≡ ltb 0 (count mostSenders (λ (i : ℕ). leb n i && member (m .aside) i))
-      → (ltb lastView (m .view) || (a || (b || c))) ≡ beyondProposals n (proposalsFrom m lengths [])
+  pub beyond-proposals : (a b : Bool) → a ≡ ltb 0 (count mostSenders (λ (i : ℕ). ltb mostBlocks (getD lengths i 0)))
+      → b ≡ ltb 0 (count mostSenders (λ (i : ℕ). leb n i && member (bitOr (m .filed) (m .aside)) i))
+      → (ltb lastView (m .view) || (a || b)) ≡ beyondProposals n (proposalsFrom m lengths [])
   unfolding beyondProposals
-  beyond-proposals a b c e f g =
+  beyond-proposals a b e f =
       ap (λ (t : Bool). ltb lastView (m .view) || t)
-      ((λ i. (e ∙ sym (any-place (tooLong lengths))) i || ((f ∙ sym (any-place (namesBeyond n (m .filed)))) i || (g ∙ sym (any-place (namesBeyond n (m .aside)))) i))
+      ((λ i. (e ∙ sym (any-place (tooLong lengths))) i || reaches-both n (m .filed) (m .aside) b f i)
       ∙ sym (any-or (tooLong lengths) _ ∙ ap (λ (t : Bool). anyPlace (tooLong lengths) || t) (any-or (namesBeyond n (m .filed)) (namesBeyond n (m .aside)))))
 
 -- ---- the causes together

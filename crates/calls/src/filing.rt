@@ -2,9 +2,11 @@
 // the functions on LOGs, nor what does not concern the proposals to those on PROPOSALs.
 ghost use mathlib.Core.Path.{_≡_};
 ghost use Rattle.message.specs.Message.{readOf};
-ghost use Rattle.agreement.specs.Filing.{wordOf};
+ghost use Rattle.agreement.specs.Record.{agreementFrom};
+ghost use Rattle.agreement.specs.Filing.{Files, fileOf, wordOf};
+ghost use Rattle.bench.specs.Layout.{logsPlace};
 ghost use Rattle.bench.specs.Calls.{took};
-ghost use Rattle.bench.specs.Record.{benchFrom};
+ghost use Rattle.bench.specs.Record.{benchFrom, ofView};
 ghost use Rattle.bench.specs.ByRecord.{receives};
 ghost use Rattle.bench.specs.Answers.{heldWith, takenReply, ReceiveGives};
 ghost use Rattle.calls.specs.Steps.{LogFiled, LogTaken, ProposalFiled, ProposalTaken};
@@ -16,6 +18,8 @@ use super::record::logs_place;
 use super::record::of_view;
 use super::record::shown_of;
 use agreement::Answer;
+use agreement::Filed;
+use agreement::Marks;
 use bench::Head;
 use bench::PROPOSALS_PLACE;
 use bench::ReceivedHead;
@@ -33,7 +37,25 @@ fn word(answer: Answer) -> Taken
     }
 }
 
-// The LOG in the bytes, from this sender, in the agreement of view v.
+// The LOG in the bytes, from this sender, in the slot of view v: it is handed the slot's numbers alone, and not the whole head.
+fn file_slot(
+    g: Marks,
+    lengths: &mut [u8; 32],
+    names: &mut [u64],
+    counts: &mut [u16],
+    bytes: &[u8],
+    v: u32,
+    sender: u8,
+) -> Filed
+    ensures { λ r. ⌜ Files (fileOf (ofView (agreementFrom g (now (lengths .entry))) v) (now (names .entry)) (now (counts .entry)) (logsPlace v) (now (bytes .entry)) sender) r
+        (now (lengths .exit)) (now (names .exit)) (now (counts .exit)) ⌝ }
+{
+    let base = logs_place(v);
+    let slot = of_view(g, lengths, v);
+    agreement::filing::file(slot, lengths, names, counts, base, bytes, sender)
+}
+
+// The same in the agreement of view v.
 pub(crate) fn file_log(
     h: Head,
     even: &mut [u8; 32],
@@ -47,11 +69,9 @@ pub(crate) fn file_log(
     ensures { λ r. ⌜ LogFiled h (now (even .entry)) (now (odd .entry)) (now (names .entry)) (now (counts .entry)) (now (bytes .entry)) v sender r
         (now (even .exit)) (now (odd .exit)) (now (names .exit)) (now (counts .exit)) ⌝ }
 {
-    let base = logs_place(v);
     let mut c = h;
     if is_even(v) {
-        let g = of_view(h.even, even, v);
-        let f = agreement::filing::file(g, even, names, counts, base, bytes, sender);
+        let f = file_slot(h.even, even, names, counts, bytes, v, sender);
         let answer = f.answer;
         let marks = f.marks;
         c.even = marks;
@@ -60,8 +80,7 @@ pub(crate) fn file_log(
             head: c,
         };
     }
-    let g = of_view(h.odd, odd, v);
-    let f = agreement::filing::file(g, odd, names, counts, base, bytes, sender);
+    let f = file_slot(h.odd, odd, names, counts, bytes, v, sender);
     let answer = f.answer;
     let marks = f.marks;
     c.odd = marks;

@@ -35,18 +35,14 @@ pub(crate) fn is_short(names: &[u64], counts: &[u16]) -> bool
     (names.len() < LEAST_LENT) | (counts.len() < LEAST_LENT)
 }
 
-// A set of an agreement names n or above, a sender is in V and in E, or one of a snapshot is in neither.
+// A set of an agreement names n or above, a sender is in V and in E, or one of a snapshot is in neither. Sets of which the same is
+// asked are asked together.
 fn are_bad_sets(g: Marks, n: u8) -> bool
     ensures { λ r. ⌜ r ≡ badSets n g ⌝ }
 {
-    let one = g.one.senders;
-    let two = g.two.senders;
     let s = g.voters | g.equivocators;
-    reaches(g.voters, n)
-        | (reaches(g.equivocators, n)
-            | (reaches(one, n)
-                | (reaches(two, n)
-                    | (meet(g.voters, g.equivocators) | (exceeds(one, s) | exceeds(two, s))))))
+    let snapped = g.one.senders | g.two.senders;
+    reaches(s | snapped, n) | (meet(g.voters, g.equivocators) | exceeds(snapped, s))
 }
 
 fn is_beyond_agreement(g: Marks, lengths: &[u8; 32], n: u8) -> bool
@@ -58,8 +54,7 @@ fn is_beyond_agreement(g: Marks, lengths: &[u8; 32], n: u8) -> bool
 fn is_beyond_proposals(g: Shown, lengths: &[u8; 32], n: u8) -> bool
     ensures { λ r. ⌜ r ≡ beyondProposals n (proposalsFrom g (now (lengths .entry)) []) ⌝ }
 {
-    (LAST_VIEW < g.view)
-        | (is_over(lengths, MOST_BLOCKS) | (reaches(g.filed, n) | reaches(g.aside, n)))
+    (LAST_VIEW < g.view) | (is_over(lengths, MOST_BLOCKS) | reaches(g.filed | g.aside, n))
 }
 
 // The record is beyond its limits. Priorities have none.

@@ -4,16 +4,18 @@ use Prim.Native.Nat.{ℕ, suc, _+_, _-_, _*_, _/_, _%_, _≤_, _<_}
 use native.Mathlib.Omega.{arith}
 use mathlib.Core.Path.{_≡_, refl, sym, ap, _∙_}
 use mathlib.Core.List.{List, _∷_}
-use mathlib.Core.Bool.{Bool, true, false, _||_}
+use mathlib.Core.Bool.{Bool, true, false, _&&_, _||_}
 use lib.Dec.{leb, eqb}
 use native.Mathlib.Nat.{mul-suc}
 use lib.ListN.{length, getD, set, length-set}
-use borrow.Author.Tests.{le-leb, lt-leb, leb-true, leb-false}
+use borrow.Author.Tests.{le-leb, lt-leb, leb-true, leb-false, eq-eqb, ne-eqb, eqb-true, eqb-false}
+use lib.Bits.{bitOr, bitXor, or-zero-l, or-add-and, xor-self, xor-add-and, and-le-l, and-le-r}
 use lib.Seq.{getD-set-other}
 use Rattle.message.specs.Choice.{anyOf}
 use Rattle.message.specs.Message.{anyZero}
 use Rattle.message.specs.Numbers.{part, put, numberAt, numbersAt, bytesFor, bytesForEach}
-use Rattle.message.specs.Asks.{Fits}
+use Rattle.message.specs.Asks.{Fits, alike}
+use Rattle.message.proofs.TestLaws.{either}
 use Rattle.message.proofs.PartLaws.{length-put, put-append}
 use Rattle.message.proofs.NumberLaws.{length-bytes}
 
@@ -196,3 +198,71 @@ module _ {b₀ : ℕ} {l₀ z l : List ℕ} {a b k : ℕ} (f : Copying b₀ l₀
   pub copy-end : k ≤ 0 → l ≡ z
   unfolding put part
   copy-end h = let g : k ≡ 0 = omega arith in sym (f .rest ∙ ap (λ (j : ℕ). put l b (part l₀ a j)) g)
+
+-- ---- comparing numbers in bytes, w bytes each, with those of a list: what differs is gathered in one number
+
+or-none : (a b : ℕ) → bitOr a b ≡ 0 → (a ≡ 0) × (b ≡ 0)
+or-none a b e =
+    let s = or-add-and a b in
+    let l = and-le-l a b in
+    let r = and-le-r a b in
+    (omega arith, omega arith)
+
+xor-none : (a b : ℕ) → bitXor a b ≡ 0 → a ≡ b
+xor-none a b e =
+    let s = xor-add-and a b in
+    let l = and-le-l a b in
+    let r = and-le-r a b in
+    omega arith
+
+gathered : (d x y : ℕ) → eqb (bitOr d (bitXor x y)) 0 ≡ (eqb d 0 && eqb x y)
+gathered d x y =
+    either (eqb d 0)
+    (λ t. either (eqb x y)
+    (λ u. ap (λ (n : ℕ). eqb (bitOr n (bitXor x y)) 0) (eqb-true d 0 t) ∙ ap (λ (n : ℕ). eqb n 0) (or-zero-l (bitXor x y))
+    ∙ ap (λ (n : ℕ). eqb (bitXor n y) 0) (eqb-true x y u) ∙ ap (λ (n : ℕ). eqb n 0) (xor-self y) ∙ rw (t, u))
+    (λ u. ne-eqb (bitOr d (bitXor x y)) 0 (λ g. eqb-false x y u (xor-none x y (or-none d (bitXor x y) g .1))) ∙ rw (t, u)))
+    (λ t. ne-eqb (bitOr d (bitXor x y)) 0 (λ g. eqb-false d 0 t (or-none d (bitXor x y) g .0)) ∙ rw t)
+
+and-next : (a b c : Bool) → (a && (b && c)) ≡ ((a && b) && c)
+and-next true b c = refl
+and-next false b c = refl
+
+and-last : (a : Bool) → a ≡ (a && true)
+and-last true = refl
+and-last false = refl
+
+alike-step : (w : ℕ) (s ns : List ℕ) (p a k : ℕ) → 0 < k
+    → alike (numbersAt w s p k) (part ns a k) ≡ (eqb (numberAt w s p) (getD ns a 0) && alike (numbersAt w s (p + w) (k - 1)) (part ns (a + 1) (k - 1)))
+unfolding alike numbersAt part
+alike-step w s ns p a k h = let e : k ≡ suc (k - 1) = omega arith in ap (λ (j : ℕ). alike (numbersAt w s p j) (part ns a j)) e
+
+-- z is the whole, d what differs so far, and k numbers are to come: in the bytes from p on, in the list from a on
+pub record Gathering (w : ℕ) (z : Bool) (s ns : List ℕ) (d p a k : ℕ) : Type 0 where
+  pub bytes : p + w * k ≤ length s
+  pub inList : a + k ≤ length ns
+  pub rest : z ≡ (eqb d 0 && alike (numbersAt w s p k) (part ns a k))
+
+pub gather-starts : (w : ℕ) (s ns : List ℕ) (p a k : ℕ) → p + w * k ≤ length s → a + k ≤ length ns
+    → Gathering w (alike (numbersAt w s p k) (part ns a k)) s ns 0 p a k
+gather-starts w s ns p a k h g = record { bytes = h; inList = g; rest = refl }
+
+module _ {w : ℕ} {z : Bool} {s ns : List ℕ} {d p a k : ℕ} (f : Gathering w z s ns d p a k) where
+  pub gather-next : {x : ℕ} → 0 < k → x ≡ numberAt w s p → Gathering w z s ns (bitOr d (bitXor x (getD ns a 0))) (p + w) (a + 1) (k - 1)
+  gather-next {x} h q =
+      let t = one-less w k h in
+      let b = f .bytes in
+      let r = f .inList in
+      record {
+        bytes = omega arith;
+        inList = omega arith;
+        rest =
+            f .rest ∙ ap (λ (v : Bool). eqb d 0 && v) (alike-step w s ns p a k h)
+            ∙ ap (λ (n : ℕ). eqb d 0 && (eqb n (getD ns a 0) && alike (numbersAt w s (p + w) (k - 1)) (part ns (a + 1) (k - 1)))) (sym q)
+            ∙ and-next (eqb d 0) (eqb x (getD ns a 0)) (alike (numbersAt w s (p + w) (k - 1)) (part ns (a + 1) (k - 1)))
+            ∙ ap (λ (v : Bool). v && alike (numbersAt w s (p + w) (k - 1)) (part ns (a + 1) (k - 1))) (sym (gathered d x (getD ns a 0)));
+      }
+
+  pub gather-end : k ≤ 0 → eqb d 0 ≡ z
+  unfolding alike numbersAt part
+  gather-end h = let g : k ≡ 0 = omega arith in and-last (eqb d 0) ∙ sym (f .rest ∙ ap (λ (j : ℕ). eqb d 0 && alike (numbersAt w s p j) (part ns a j)) g)

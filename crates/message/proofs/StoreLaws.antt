@@ -14,12 +14,12 @@ use Rattle.message.specs.Numbers.{part, put, numberAt, numbersAt}
 use Rattle.message.specs.Logs.{Block, Log, isPrefix, sameLog, sameBlock, sharedLength, inStep, namesOf, countsOf}
 use Rattle.message.specs.Store.{blockAt, logAt, within, holdsLog, prefixAt, sharedAt, matchesAt, Stores, storeOf, fileOf, copyOf}
 use Rattle.message.specs.Message.{countIn, namesIn, countsIn, blocksIn, logIn}
-use Rattle.message.specs.Asks.{TwoLogs, BytesAndLog}
+use Rattle.message.specs.Asks.{TwoLogs, BytesAndLog, alike}
 use Rattle.message.proofs.TestLaws.{either, and-on, and-off}
 use Rattle.message.proofs.LogLaws.{isPrefix-iff, sameLog-iff, prefix-refl, prefix-length, shared-most, shared-covers}
 use Rattle.message.proofs.ListedLaws.{length-at, names-at, counts-at, log-step, log-empty, within-of}
 use Rattle.message.proofs.Acceptance.{names-in, counts-in, length-blocks}
-use Rattle.message.proofs.LoopLaws.{numbers-step, Storing, Copying}
+use Rattle.message.proofs.LoopLaws.{Copying}
 
 -- ---- the walk along two logs in the lists
 
@@ -192,52 +192,36 @@ holds-asks s names counts a k v w e f t g =
 abbrev blocksFrom : List ℕ → ℕ → ℕ → ℕ → Log
 blocksFrom s p q k = inStep (numbersAt nameWidth s p k) (numbersAt countWidth s q k)
 
-abbrev blockFrom : List ℕ → ℕ → ℕ → Block
-blockFrom s p q = record { name = numberAt nameWidth s p; count = numberAt countWidth s q }
+and-swap : (a b c d : Bool) → ((a && b) && (c && d)) ≡ ((a && c) && (b && d))
+and-swap true true c d = refl
+and-swap true false true d = refl
+and-swap true false false d = refl
+and-swap false b c d = refl
 
-blocks-step : (s : List ℕ) (p q left : ℕ) → 0 < left → blocksFrom s p q left ≡ blockFrom s p q ∷ blocksFrom s (p + nameWidth) (q + countWidth) (left - 1)
-unfolding inStep
-blocks-step s p q left h = let e = numbers-step nameWidth s p left h in let f = numbers-step countWidth s q left h in λ i. inStep (e i) (f i)
+-- blocks are the same where their names are and their counts are
+blocks-alike : (s names counts : List ℕ) (p q a k : ℕ)
+    → (alike (numbersAt nameWidth s p k) (part names a k) && alike (numbersAt countWidth s q k) (part counts a k)) ≡ sameLog (blocksFrom s p q k) (logAt names counts a k)
+unfolding alike numbersAt part sameLog inStep logAt
+blocks-alike s names counts p q a zero = refl
+blocks-alike s names counts p q a (suc k) =
+    and-swap
+    (eqb (numberAt nameWidth s p) (getD names a 0))
+    (alike (numbersAt nameWidth s (p + nameWidth) k) (part names (a + 1) k))
+    (eqb (numberAt countWidth s q) (getD counts a 0))
+    (alike (numbersAt countWidth s (q + countWidth) k) (part counts (a + 1) k))
+    ∙ ap (λ (v : Bool). (eqb (numberAt nameWidth s p) (getD names a 0) && eqb (numberAt countWidth s q) (getD counts a 0)) && v)
+    (blocks-alike s names counts (p + nameWidth) (q + countWidth) (a + 1) k)
 
-match-step : (s names counts : List ℕ) (p q a left : ℕ) → 0 < left
-    → sameLog (blocksFrom s p q left) (logAt names counts a left)
-    ≡ sameBlock (blockFrom s p q) (blockAt names counts a) && sameLog (blocksFrom s (p + nameWidth) (q + countWidth) (left - 1)) (logAt names counts (a + 1) (left - 1))
-unfolding sameLog
-match-step s names counts p q a left h = let e = blocks-step s p q left h in let f = log-step names counts a left h in λ i. sameLog (e i) (f i)
+pub blocks-are : (s names counts : List ℕ) (a k : ℕ) (r t : Bool) → r ≡ alike (namesIn s k) (part names a k) → t ≡ alike (countsIn s k) (part counts a k)
+    → (r && t) ≡ sameLog (blocksIn s k) (logAt names counts a k)
+blocks-are s names counts a k r t e f = rw (e, f) (blocks-alike s names counts headLength (headLength + nameWidth * k) a k)
 
--- z is the whole, k blocks of it are to come: in the bytes from p and q on, in the lists from a on
-pub record Matching (z : Bool) (s names counts : List ℕ) (p q a k : ℕ) : Type 0 where
-  pub inBytes : (p + nameWidth * k ≤ length s) × (q + countWidth * k ≤ length s)
-  pub inLists : (a + k ≤ length names) × (a + k ≤ length counts)
-  pub rest : z ≡ sameLog (blocksFrom s p q k) (logAt names counts a k)
+-- what the two walks ask
+pub asks-names : {s names counts : List ℕ} {a k : ℕ} → BytesAndLog s names counts a k → (headLength + nameWidth * k ≤ length s) × (a + k ≤ length names)
+asks-names h = let b = h .bytes in (omega arith, h .inNames)
 
-pub match-starts : (s names counts : List ℕ) (a k : ℕ) → BytesAndLog s names counts a k
-    → Matching (sameLog (blocksIn s k) (logAt names counts a k)) s names counts headLength (headLength + nameWidth * k) a k
-match-starts s names counts a k h =
-    let b = h .bytes in record { inBytes = (omega arith, omega arith); inLists = (h .inNames, h .inCounts); rest = refl }
-
-module _ {z : Bool} {s names counts : List ℕ} {p q a k : ℕ} (w : Matching z s names counts p q a k) where
-  module _ {r : Bool} {x y : ℕ} (h : 0 < k) (e : x ≡ numberAt nameWidth s p) (f : y ≡ numberAt countWidth s q)
-      (b : r ≡ sameBlock (record { name = x; count = y }) (blockAt names counts a)) where
-    read : r ≡ sameBlock (blockFrom s p q) (blockAt names counts a)
-    read = b ∙ rw (e, f)
-
-    pub match-on : r ≡ true → Matching z s names counts (p + nameWidth) (q + countWidth) (a + 1) (k - 1)
-    match-on t =
-        let i = w .inBytes in
-        let j = w .inLists in
-        record {
-          inBytes = (omega arith, omega arith);
-          inLists = (omega arith, omega arith);
-          rest = and-on z r _ _ (w .rest ∙ match-step s names counts p q a k h) read t;
-        }
-
-    pub match-off : r ≡ false → false ≡ z
-    match-off = and-off z r _ _ (w .rest ∙ match-step s names counts p q a k h) read
-
-  pub match-end : k ≤ 0 → true ≡ z
-  unfolding sameLog numbersAt inStep logAt part
-  match-end h = let f : k ≡ 0 = omega arith in sym (w .rest ∙ ap (λ (j : ℕ). sameLog (blocksFrom s p q j) (logAt names counts a j)) f)
+pub asks-counts : {s names counts : List ℕ} {a k : ℕ} → BytesAndLog s names counts a k → (headLength + blockWidth * k ≤ length s) × (a + k ≤ length counts)
+asks-counts h = (h .bytes, h .inCounts)
 
 module _ (s names counts : List ℕ) (a x : ℕ) (v w : Bool) (e : v ≡ holdsLog s) (f : w ≡ within names counts a x) (k : ℕ) (g : k ≡ getD s 0 0) where
   apart : ((v && w) && eqb k x) ≡ true → ((v && w) ≡ true) × (k ≡ x)
@@ -289,14 +273,8 @@ module _ (names counts : List ℕ) (a : ℕ) (s : List ℕ) (k : ℕ) (g : k ≡
   pub file-outside : (v && w) ≡ false → Stores (fileOf names counts a s) false names counts
   file-outside t = stored-not (holdsLog s && within names counts a (countIn s)) names counts a (logIn s) (tested ∙ t)
 
-  -- the two walks as they start
-  pub file-starts : (v && w) ≡ true
-      → Storing nameWidth s names (put names a (namesIn s k)) names headLength a k
-      × Storing countWidth s counts (put counts a (countsIn s k)) counts (headLength + nameWidth * k) a k
-  file-starts t =
-      let h = holds-asks s names counts a k v w e f t (omega arith) in
-      let b = h .bytes in
-      (record { bytes = omega arith; room = h .inNames; same = refl; rest = refl }, record { bytes = omega arith; room = h .inCounts; same = refl; rest = refl })
+  pub file-asks : (v && w) ≡ true → BytesAndLog s names counts a k
+  file-asks t = holds-asks s names counts a k v w e f t (omega arith)
 
   pub file-done : (ns cs : List ℕ) → (v && w) ≡ true → ns ≡ put names a (namesIn s k) → cs ≡ put counts a (countsIn s k) → Stores (fileOf names counts a s) true ns cs
   file-done ns cs t m n =

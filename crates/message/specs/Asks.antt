@@ -1,8 +1,9 @@
 -- What functions inside this crate ask of their callers and promise them, by name. No public function asks anything. Assumes nothing.
 use Prim.Native.Nat.{ℕ, _+_, _*_, _≤_}
-use mathlib.Core.Bool.{Bool}
-use mathlib.Core.List.{List, _∷_, _++_}
+use mathlib.Core.Bool.{Bool, true, false, _&&_}
+use mathlib.Core.List.{List, [], _∷_, _++_}
 use mathlib.Core.Path.{_≡_}
+use lib.Dec.{eqb}
 use lib.ListN.{length}
 use Rattle.message.specs.Limits.{headLength, nameWidth, countWidth, blockWidth}
 use Rattle.message.specs.Choice.{pick}
@@ -40,3 +41,10 @@ pub record BytesAndLog (s names counts : List ℕ) (a k : ℕ) : Type 0 where
   pub bytes : headLength + blockWidth * k ≤ length s
   pub inNames : a + k ≤ length names
   pub inCounts : a + k ≤ length counts
+
+-- two lists have the same numbers, one by one
+unfoldable pub alike : List ℕ → List ℕ → Bool
+alike [] [] = true
+alike [] (y ∷ ys) = false
+alike (x ∷ xs) [] = false
+alike (x ∷ xs) (y ∷ ys) = eqb x y && alike xs ys

@@ -3,14 +3,15 @@
 // by 0 where a number is asked, and nothing is written.
 ghost use mathlib.Core.Path.{_≡_};
 ghost use mathlib.Core.Bool.{_&&_};
-ghost use Prim.Native.Nat.{_+_, _<_, _≤_};
+ghost use Prim.Native.Nat.{_+_, _*_, _<_, _≤_};
 ghost use lib.Dec.{leb};
 ghost use lib.ListN.{length};
-ghost use Rattle.message.specs.Limits.{mostBlocks};
+ghost use Rattle.message.specs.Limits.{mostBlocks, headLength, nameWidth, blockWidth};
+ghost use Rattle.message.specs.Numbers.{part, put};
 ghost use Rattle.message.specs.Logs.{sameLog, sameBlock, sharedLength};
-ghost use Rattle.message.specs.Message.{countIn, blocksIn};
+ghost use Rattle.message.specs.Message.{countIn, namesIn, countsIn, blocksIn};
 ghost use Rattle.message.specs.Store.{blockAt, logAt, holdsLog, prefixAt, sharedAt, matchesAt, Stores, fileOf, copyOf};
-ghost use Rattle.message.specs.Asks.{TwoLogs, BytesAndLog};
+ghost use Rattle.message.specs.Asks.{TwoLogs, BytesAndLog, alike};
 use super::BLOCK_WIDTH;
 use super::COUNT_WIDTH;
 use super::HEAD_LENGTH;
@@ -99,24 +100,44 @@ pub fn holds_log(s: &[u8]) -> bool
     (k <= MOST_BLOCKS) & (HEAD_LENGTH + BLOCK_WIDTH * k <= s.len())
 }
 
+// The k names in the bytes are the k names at place a. What differs is gathered, without a branch.
+fn names_match(s: &[u8], names: &[u64], mut a: usize, mut k: usize) -> bool
+    requires { ⌜ (headLength + nameWidth * k ≤ length (now s)) × (a + k ≤ length (now names)) ⌝ }
+    ensures { λ r. ⌜ r ≡ alike (namesIn (now (s .entry)) k) (part (now (names .entry)) a k) ⌝ }
+{
+    let mut p = HEAD_LENGTH;
+    let mut d = 0u64;
+    while 0 < k {
+        d = d | (u64_at(s, p) ^ names[a]);
+        p += NAME_WIDTH;
+        a += 1;
+        k -= 1;
+    }
+    d == 0
+}
+
+// Their counts likewise.
+fn counts_match(s: &[u8], counts: &[u16], mut a: usize, mut k: usize) -> bool
+    requires { ⌜ (headLength + blockWidth * k ≤ length (now s)) × (a + k ≤ length (now counts)) ⌝ }
+    ensures { λ r. ⌜ r ≡ alike (countsIn (now (s .entry)) k) (part (now (counts .entry)) a k) ⌝ }
+{
+    let mut q = HEAD_LENGTH + NAME_WIDTH * k;
+    let mut d = 0u16;
+    while 0 < k {
+        d = d | (u16_at(s, q) ^ counts[a]);
+        q += COUNT_WIDTH;
+        a += 1;
+        k -= 1;
+    }
+    d == 0
+}
+
 // The k blocks in the bytes are the k blocks at place a.
-fn blocks_match(s: &[u8], names: &[u64], counts: &[u16], mut a: usize, mut k: usize) -> bool
+fn blocks_match(s: &[u8], names: &[u64], counts: &[u16], a: usize, k: usize) -> bool
     requires { ⌜ BytesAndLog (now s) (now names) (now counts) a k ⌝ }
     ensures { λ r. ⌜ r ≡ sameLog (blocksIn (now (s .entry)) k) (logAt (now (names .entry)) (now (counts .entry)) a k) ⌝ }
 {
-    let mut p = HEAD_LENGTH;
-    let mut q = HEAD_LENGTH + NAME_WIDTH * k;
-    while 0 < k {
-        if is_block(names, counts, a, u64_at(s, p), u16_at(s, q)) {
-            p += NAME_WIDTH;
-            q += COUNT_WIDTH;
-            a += 1;
-            k -= 1;
-        } else {
-            return false;
-        }
-    }
-    true
+    names_match(s, names, a, k) & counts_match(s, counts, a, k)
 }
 
 // The log in the message is the log of x blocks at place a. False where one of them is no log.
@@ -129,22 +150,42 @@ pub fn matches(bytes: &[u8], names: &[u64], counts: &[u16], a: usize, x: usize) 
     false
 }
 
+// The k names in the bytes, filed from place a on. Names and counts are each a walk of their own: one over both lists is slower.
+fn file_names(names: &mut [u64], mut a: usize, s: &[u8], mut k: usize)
+    requires { ⌜ (headLength + nameWidth * k ≤ length (now s)) × (a + k ≤ length (now names)) ⌝ }
+    ensures { λ _. ⌜ now (names .exit) ≡ put (now (names .entry)) a (namesIn (now (s .entry)) k) ⌝ }
+{
+    let mut p = HEAD_LENGTH;
+    while 0 < k {
+        names[a] = u64_at(s, p);
+        p += NAME_WIDTH;
+        a += 1;
+        k -= 1;
+    }
+}
+
+// Their counts likewise.
+fn file_counts(counts: &mut [u16], mut a: usize, s: &[u8], mut k: usize)
+    requires { ⌜ (headLength + blockWidth * k ≤ length (now s)) × (a + k ≤ length (now counts)) ⌝ }
+    ensures { λ _. ⌜ now (counts .exit) ≡ put (now (counts .entry)) a (countsIn (now (s .entry)) k) ⌝ }
+{
+    let mut q = HEAD_LENGTH + NAME_WIDTH * k;
+    while 0 < k {
+        counts[a] = u16_at(s, q);
+        q += COUNT_WIDTH;
+        a += 1;
+        k -= 1;
+    }
+}
+
 // The log in the message, filed from place a on. False, and nothing written, where there is no log or no room there.
-pub fn file(names: &mut [u64], counts: &mut [u16], mut a: usize, bytes: &[u8]) -> bool
+pub fn file(names: &mut [u64], counts: &mut [u16], a: usize, bytes: &[u8]) -> bool
     ensures { λ r. ⌜ Stores (fileOf (now (names .entry)) (now (counts .entry)) a (now (bytes .entry))) r (now (names .exit)) (now (counts .exit)) ⌝ }
 {
-    let mut k = count_in(bytes);
+    let k = count_in(bytes);
     if holds_log(bytes) & is_within(names.len(), counts.len(), a, k) {
-        let mut p = HEAD_LENGTH;
-        let mut q = HEAD_LENGTH + NAME_WIDTH * k;
-        while 0 < k {
-            names[a] = u64_at(bytes, p);
-            counts[a] = u16_at(bytes, q);
-            p += NAME_WIDTH;
-            q += COUNT_WIDTH;
-            a += 1;
-            k -= 1;
-        }
+        file_names(names, a, bytes, k);
+        file_counts(counts, a, bytes, k);
         return true;
     }
     false

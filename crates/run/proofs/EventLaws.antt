@@ -5,6 +5,7 @@ use mathlib.Core.Bool.{Bool, true, false, not}
 use mathlib.Core.List.{List, _++_, append-assoc}
 use mathlib.Core.Path.{_≡_, refl, sym, ap, _∙_}
 use borrow.Author.Tests.{eq-eqb, ne-eqb, lt-ltb, le-ltb}
+use lib.Dec.{ltb}
 use lib.ListN.{length, take, drop}
 use Rattle.message.specs.Numbers.{numberIn}
 use Rattle.message.specs.Logs.{Block}
@@ -12,12 +13,12 @@ use Rattle.message.proofs.PartLaws.{length-put}
 use Rattle.message.proofs.Acceptance.{length-blocks}
 use Rattle.message.proofs.TestLaws.{either}
 use Rattle.agreement.specs.Sets.{isYes}
-use Rattle.bench.specs.Layout.{Lent}
+use Rattle.bench.specs.Layout.{mostBytes, Lent, shortLists}
 use Rattle.bench.specs.Calls.{Call, begin, receive, act, refused, done, State, Opening, Step}
-use Rattle.bench.specs.ByRecord.{openOf, beginOf, receiveOf, actOf}
+use Rattle.bench.specs.ByRecord.{openOf, beginOf, receiveOf, actedOf, actOf}
 use Rattle.bench.specs.Answers.{heldWith, startReply, takenReply, madeReply, OpenGives, BeginGives, ReceiveGives, ActGives}
 use Rattle.calls.specs.Steps.{Leaves}
-use Rattle.bench.specs.Record.{Bench}
+use Rattle.bench.specs.Record.{Bench, idle, beyond}
 use Rattle.bench.specs.declared.Start.{Start}
 use Rattle.bench.specs.declared.Start.the-variants as starts
 use Rattle.bench.specs.declared.Taken.{Taken}
@@ -28,7 +29,7 @@ use Rattle.run.specs.declared.Answered.{Answered}
 use Rattle.run.specs.declared.Answered.the-variants as answers
 use Rattle.run.specs.declared.Offer.{Offer}
 use Rattle.run.specs.Texts.{ascii, decimal}
-use Rattle.run.specs.Roll.{mostRoll, misshapen, eventsOf, benchesOf, ownOf, kindAt, lengthAt, beginKind, receiveKind, freshBuffer, callAt, callsOf}
+use Rattle.run.specs.Roll.{mostRoll, misshapen, eventsOf, benchesOf, ownOf, kindAt, lengthAt, beginKind, receiveKind, freshBuffer, offeredAt, priorityAt, callAt, callsOf}
 use Rattle.run.specs.RollText.{madeText, markText, replyText, lineFor, lineOf, stepOf, linesOf, noRollText, firstLine, isDone, openedText, freshLists, textOf, WritesText}
 use Rattle.run.specs.RollSteps.{endText, startText, takenText, standText, actedText, answerText, offerAt, Puts, EventGives, Runs}
 use Rattle.run.specs.Held.{openingOf, openRefuses, openedOn}
@@ -84,10 +85,9 @@ module _ (s : List ℕ) (i a : ℕ) where
       let n : a + k - a ≡ lengthAt s i = omega arith in
       rw (ne-eqb (kindAt s i) beginKind u, eq-eqb (kindAt s i) receiveKind v, n)
 
-  pub call-act : (o : Offer) → (kindAt s i ≡ beginKind → ⊥) → (kindAt s i ≡ receiveKind → ⊥) → o ≡ offerAt s a
-      → callAt s i a ≡ act (record { name = o .name; count = o .count }) (o .priority) freshBuffer
-  unfolding callAt offerAt
-  call-act o u v e = rw (ne-eqb (kindAt s i) beginKind u, ne-eqb (kindAt s i) receiveKind v, e)
+  pub call-act : (kindAt s i ≡ beginKind → ⊥) → (kindAt s i ≡ receiveKind → ⊥) → callAt s i a ≡ act (offeredAt s a) (priorityAt s a) freshBuffer
+  unfolding callAt
+  call-act u v = rw (ne-eqb (kindAt s i) beginKind u, ne-eqb (kindAt s i) receiveKind v)
 
 -- ---- the call of event i, by what it gave
 
@@ -115,15 +115,48 @@ module _ (s : List ℕ) (i a : ℕ) (x : State) (b : Bench) (ns cs : List ℕ) w
       (record { bench = g .bench; nameList = g .nameList; countList = g .countList })
       (taken-line r (receiveOf x bytes) bytes (g .answered))
 
-  pub act-gives : (r : Made) (o : Offer) (out : List ℕ) → (kindAt s i ≡ beginKind → ⊥) → (kindAt s i ≡ receiveKind → ⊥) → o ≡ offerAt s a
-      → ActGives (actOf x (record { name = o .name; count = o .count }) (o .priority) freshBuffer) r b ns cs out
-      → EventGives (callAt s i a) x (answers.Acted r) b ns cs
-  unfolding answerText
-  act-gives r o out u v w g =
-      let block : Block = record { name = o .name; count = o .count } in
-      gives (act block (o .priority) freshBuffer) (answers.Acted r) (call-act s i a o u v w)
-      (record { bench = g .bench; nameList = g .nameList; countList = g .countList })
-      (acted-line r (actOf x block (o .priority) freshBuffer) block (o .priority) freshBuffer out (g .answered))
+  pub act-gives : (r : Answered) → (kindAt s i ≡ beginKind → ⊥) → (kindAt s i ≡ receiveKind → ⊥)
+      → EventGives (act (offeredAt s a) (priorityAt s a) freshBuffer) x r b ns cs → EventGives (callAt s i a) x r b ns cs
+  act-gives r u v g = rw (call-act s i a u v) g
+
+-- What the buffer holds shows nowhere: neither in what is made nor in what is held.
+pub same-reply : (x : State) (block : Block) (priority : ℕ) (out o : List ℕ) → ltb (length out) mostBytes ≡ ltb (length o) mostBytes
+    → actOf x block priority out .answer .reply ≡ actOf x block priority o .answer .reply
+unfolding actOf actedOf
+same-reply x block priority out o l =
+    either (beyond (x .bench)) (λ e. rw e) (λ e.
+    either (shortLists (x .lent)) (λ f. rw (e, f)) (λ f.
+    either (ltb (length out) mostBytes) (λ g. rw (e, f, ← l, g)) (λ g.
+    either (idle (x .bench)) (λ h. rw (e, f, ← l, g, h)) (λ h. rw (e, f, ← l, g, h)))))
+
+same-held : (x : State) (block : Block) (priority : ℕ) (out o : List ℕ) → ltb (length out) mostBytes ≡ ltb (length o) mostBytes
+    → actOf x block priority out .held ≡ actOf x block priority o .held
+unfolding actOf actedOf
+same-held x block priority out o l =
+    either (beyond (x .bench)) (λ e. rw e) (λ e.
+    either (shortLists (x .lent)) (λ f. rw (e, f)) (λ f.
+    either (ltb (length out) mostBytes) (λ g. rw (e, f, ← l, g)) (λ g.
+    either (idle (x .bench)) (λ h. rw (e, f, ← l, g, h)) (λ h. rw (e, f, ← l, g, h)))))
+
+-- an act, whatever its body
+pub acted-gives : (s : List ℕ) (a : ℕ) (x : State) (b : Bench) (ns cs : List ℕ) (r : Made) (o : Offer) (l out : List ℕ) → o ≡ offerAt s a → length l ≡ mostBytes
+    → ActGives (actOf x (record { name = o .name; count = o .count }) (o .priority) l) r b ns cs out
+    → EventGives (act (offeredAt s a) (priorityAt s a) freshBuffer) x (answers.Acted r) b ns cs
+unfolding answerText offerAt
+acted-gives s a x b ns cs r o l out w n g =
+    let block : Block = record { name = o .name; count = o .count } in
+    let c : act (offeredAt s a) (priorityAt s a) freshBuffer ≡ act block (o .priority) freshBuffer = rw w in
+    let e : ltb (length l) mostBytes ≡ ltb (length freshBuffer) mostBytes = rw n in
+    let h = same-held x block (o .priority) l freshBuffer e in
+    let held : b ≡ actOf x block (o .priority) freshBuffer .held .bench = g .bench ∙ ap (λ (y : State). y .bench) h in
+    rw c (record {
+      leaves = record {
+        bench = held;
+        nameList = g .nameList ∙ ap (λ (y : State). y .lent .names) h;
+        countList = g .countList ∙ ap (λ (y : State). y .lent .counts) h;
+      };
+      line = rw held (acted-line r (actOf x block (o .priority) freshBuffer) block (o .priority) freshBuffer out (g .answered ∙ same-reply x block (o .priority) l freshBuffer e));
+    })
 
 -- ---- what Open gave
 

@@ -32,6 +32,7 @@ use Rattle.run.specs.Held.{heldAfter, firstCalls, bodyPlace, openingOf, 
 use Rattle.run.specs.MadeBytes.{madeBy, noAct, actAfter, madeOn, madeOf, madeLength, GivesMade}
 use Rattle.run.proofs.HeldLaws.{leaves-state, silent}
 use Rattle.run.proofs.RollForm.{shaped}
+use Rattle.run.proofs.EventLaws.{same-reply}
 
 -- ---- which events are no Act
 
@@ -109,16 +110,6 @@ act-makes s a x out o r b ns cs after n q g e = act-gives x (offeredAt s a) (pri
 -- no message is empty, so an answer of 0 says that none was made
 pub made-some : (m : Meaning) → 0 < madeLength (some m)
 made-some m = let l = length-message m in omega arith
-
--- What the buffer holds shows nowhere in what is made: it is what the roll's text says of this event.
-same-reply : (x : State) (block : Block) (priority : ℕ) (out o : List ℕ) → ltb (length out) mostBytes ≡ ltb (length o) mostBytes
-    → actOf x block priority out .answer .reply ≡ actOf x block priority o .answer .reply
-unfolding actOf actedOf
-same-reply x block priority out o l =
-    either (beyond (x .bench)) (λ e. rw e) (λ e.
-    either (shortLists (x .lent)) (λ f. rw (e, f)) (λ f.
-    either (ltb (length out) mostBytes) (λ g. rw (e, f, ← l, g)) (λ g.
-    either (idle (x .bench)) (λ h. rw (e, f, ← l, g, h)) (λ h. rw (e, f, ← l, g, h)))))
 
 pub made-as-said : (x : State) (s : List ℕ) (k : ℕ) (out : List ℕ) → kindAt s k ≡ actKind → mostBytes ≤ length out
     → actAfter x s k out .answer .reply ≡ stepOf (heldAfter x (firstCalls s k)) (callAt s k (bodyPlace s k)) .answer .reply

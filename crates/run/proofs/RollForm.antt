@@ -1,20 +1,46 @@
 -- The form of a roll: a law for each return of the code that judges it, and what a roll of the right form has. Assumes nothing.
-use Prim.Native.Nat.{ℕ, zero, suc, _+_, _-_, _*_, _≤_, _<_}
+use Prim.Native.Nat.{ℕ, zero, suc, _+_, _-_, _*_, _/_, _%_, _≤_, _<_}
 use native.Mathlib.Omega.{arith}
 use mathlib.Core.Bool.{Bool, true, false, not, _||_}
 use mathlib.Core.List.{List}
 use mathlib.Core.Path.{_≡_, refl, sym, ap, _∙_}
-use borrow.Author.Tests.{lt-ltb, le-ltb, eqb-true, ltb-false}
-use lib.Dec.{eqb, ltb}
-use lib.ListN.{length}
+use borrow.Author.Tests.{lt-ltb, le-ltb, le-leb, eqb-true, eqb-false, ne-eqb, ltb-false}
+use lib.Dec.{eqb, leb, ltb}
+use lib.ListN.{length, getD}
+use Rattle.message.specs.Numbers.{numberAt, numberIn}
+use Rattle.message.proofs.LoopLaws.{two-bytes}
 use Rattle.message.proofs.TestLaws.{either, or-false}
-use Rattle.run.specs.Roll.{mostRoll, mostEvents, sizesLength, markLength, eventsOf, kindAt, zeroAt, lengthAt, bodiesPlace, rightBody, wrongMark, misfits, misshapen}
-use Rattle.run.specs.RollSteps.{Shaped, Lies}
+use Rattle.run.specs.Roll.{mostRoll, mostEvents, sizesLength, markLength, eventsOf, markPlace, kindAt, zeroAt, lengthAt, bodiesPlace, rightBody, wrongMark, misfits, misshapen}
+use Rattle.run.specs.RollSteps.{Marked, MarkIs, Shaped, Lies}
 
-pub wrong-mark-is : (s : List ℕ) (i k : ℕ) (r : Bool) → k ≡ lengthAt s i → r ≡ rightBody (kindAt s i) k
-    → (not (eqb (zeroAt s i) 0) || not r) ≡ wrongMark s i
+-- ---- a mark as one number
+
+pub mark-is : (s : List ℕ) (i x y u v : ℕ) → Marked s i → (x ≡ kindAt s i) × (x < 256) → (y ≡ zeroAt s i) × (y < 256)
+    → (u ≡ getD s (markPlace i + 2) 0) × (u < 256) → (v ≡ getD s (markPlace i + 3) 0) × (v < 256) → MarkIs s i (x + y * 256 + (u + v * 256) * 65536)
+unfolding numberIn
+mark-is s i x y u v h (e, a) (f, b) (g, c) (j, d) =
+    let n : markPlace i + 2 + 1 ≡ markPlace i + 3 = omega arith in
+    let t = two-bytes s (markPlace i + 2) u v g (j ∙ ap (λ (k : ℕ). getD s k 0) (sym n)) in
+    let l : leb (markPlace i + 2 + 2) (length s) ≡ true = le-leb (markPlace i + 2 + 2) (length s) (omega arith) in
+    let w : lengthAt s i ≡ numberAt 2 s (markPlace i + 2) = rw l in
+    record { start = omega arith; kind = omega arith; body = omega arith; short = omega arith }
+
+-- a mark whose second byte is not zero has a lower half that is no kind
+no-kind : (m k : ℕ) → 256 ≤ m → rightBody m k ≡ false
+unfolding rightBody
+no-kind m k h = rw (ne-eqb m 1 (λ e. omega arith), ne-eqb m 2 (λ e. omega arith), ne-eqb m 3 (λ e. omega arith))
+
+wrong-is : (s : List ℕ) (i m : ℕ) → MarkIs s i m → not (rightBody (m % 65536) (m / 65536)) ≡ wrongMark s i
 unfolding wrongMark
-wrong-mark-is s i k r e f = rw (f, e)
+wrong-is s i m f =
+    let q = f .start in
+    let kind = f .kind in
+    either (eqb (zeroAt s i) 0)
+    (λ yes. let z = eqb-true (zeroAt s i) 0 yes in let l : m % 65536 ≡ kindAt s i = omega arith in rw (yes, l, f .body))
+    (λ no. let z = eqb-false (zeroAt s i) 0 no in rw (no, no-kind (m % 65536) (m / 65536) (big z)))
+  where
+    big : (zeroAt s i ≡ 0 → ⊥) → 256 ≤ m % 65536
+    big z = let q = f .start in omega arith
 
 -- ---- the walk over the marks
 
@@ -25,18 +51,23 @@ misfits-step s i a m h = let e : m ≡ suc (m - 1) = omega arith in ap (misfits 
 pub marks-start : (s : List ℕ) (e : ℕ) → e ≡ eventsOf s → misfits s 0 (bodiesPlace s) (eventsOf s) ≡ misfits s 0 (4 + 4 * e) (e - 0)
 marks-start s e q = let n : e - 0 ≡ e = omega arith in rw (n, q)
 
-module _ (z : Bool) (s : List ℕ) (i a e : ℕ) (inv : z ≡ misfits s i a (e - i)) where
-  pub mark-wrong : (r : Bool) → i < e → r ≡ wrongMark s i → r ≡ true → true ≡ z
-  mark-wrong r h q t = sym (inv ∙ misfits-step s i a (e - i) (omega arith) ∙ rw (← q, t))
+or-next : (a b c : Bool) → (a || (b || c)) ≡ ((a || b) || c)
+or-next true b c = refl
+or-next false b c = refl
 
-  pub mark-right : (r : Bool) (k : ℕ) → i < e → r ≡ wrongMark s i → r ≡ false → k ≡ lengthAt s i → z ≡ misfits s (i + 1) (a + k) (e - (i + 1))
-  mark-right r k h q t l =
+-- b where a mark before event i is wrong
+module _ (z b : Bool) (s : List ℕ) (i a e : ℕ) (inv : z ≡ (b || misfits s i a (e - i))) where
+  pub mark-next : (m : ℕ) (r : Bool) → i < e → MarkIs s i m → r ≡ rightBody (m % 65536) (m / 65536)
+      → z ≡ ((b || not r) || misfits s (i + 1) (a + m / 65536) (e - (i + 1)))
+  mark-next m r h f q =
       let n : e - i - 1 ≡ e - (i + 1) = omega arith in
-      inv ∙ misfits-step s i a (e - i) (omega arith) ∙ rw (← q, t, l, n)
+      inv ∙ ap (λ (t : Bool). b || t) (misfits-step s i a (e - i) (omega arith))
+      ∙ or-next b (wrongMark s i) (misfits s (i + 1) (a + lengthAt s i) (e - i - 1))
+      ∙ rw (q, wrong-is s i m f, f .body, n)
 
-  pub marks-end : e ≤ i → not (eqb a (length s)) ≡ z
+  pub marks-end : e ≤ i → (b || not (eqb a (length s))) ≡ z
   unfolding misfits
-  marks-end h = let n : e - i ≡ 0 = omega arith in sym (inv ∙ ap (misfits s i a) n)
+  marks-end h = let n : e - i ≡ 0 = omega arith in sym (inv ∙ ap (λ (k : ℕ). b || misfits s i a k) n)
 
 -- bodies that start past the roll's end do not end where it ends
 at-end : (a n : ℕ) → not (eqb a n) ≡ false → a ≤ n
@@ -106,3 +137,6 @@ lies s i a e q f inv h =
 
 pub mark-fits : (s : List ℕ) (i e : ℕ) → e ≡ eventsOf s → Shaped s → i < e → 4 + 4 * i < length s
 mark-fits s i e q f h = let m = places-grow s 0 (bodiesPlace s) (eventsOf s) (f .fit) in omega arith
+
+pub marked : (s : List ℕ) (i k : ℕ) → Shaped s → k ≤ eventsOf s → i < k → (i < mostEvents) × Marked s i
+marked s i k f h l = let m = places-grow s 0 (bodiesPlace s) (eventsOf s) (f .fit) in let n = f .few in (omega arith, omega arith)

@@ -15,7 +15,7 @@ use Rattle.bench.specs.declared.Made.{Made}
 use Rattle.run.specs.declared.Answered.{Answered}
 use Rattle.run.specs.Texts.{ascii, digits, decimal}
 use Rattle.run.specs.RollText.{markText, firstLine}
-use Rattle.run.specs.RollSteps.{actedText, answerText, Puts}
+use Rattle.run.specs.RollSteps.{actedText, answerText, Puts, pairOf}
 
 -- ---- a word, byte by byte
 
@@ -93,13 +93,31 @@ pub digits-none : (m x : ℕ) → m ≡ 0 → digits m x ≡ []
 unfolding digits
 digits-none m x e = rw e
 
-pub digit-one : (m x at : ℕ) (l : List ℕ) → (m ≡ 0 → ⊥) → x < 10 → Puts (digits m x) at l (at + 1) (set l at (48 + x))
+pub digit-one : (m x at : ℕ) (l : List ℕ) → 0 < m → x < 10 → Puts (digits m x) at l (at + 1) (set l at (48 + x))
 unfolding put
-digit-one m x at l n h = let e = digits-one m x (omega arith) h in record { place = rw e; text = rw e }
+digit-one m x at l n h = let e = digits-one m x n h in record { place = rw e; text = rw e }
 
-pub digit-more : (m x at : ℕ) (l : List ℕ) (p : ℕ) (o : List ℕ) → (m ≡ 0 → ⊥) → 10 ≤ x → Puts (digits (m - 1) (x / 10)) at l p o
-    → Puts (digits m x) at l (p + 1) (set o p (48 + x % 10))
+digits-two : (m x : ℕ) → 1 < m → 10 ≤ x → x < 100 → digits m x ≡ pairOf x
+digits-two m x h k l = digits-step m x (omega arith) k ∙ ap (λ (xs : List ℕ). xs ++ ((48 + x % 10) ∷ [])) (digits-one (m - 1) (x / 10) (omega arith) (omega arith))
+
+digits-pair : (m n x : ℕ) → m ≡ n + 2 → 100 ≤ x → digits m x ≡ digits n (x / 100) ++ pairOf (x % 100)
+digits-pair m n x e h =
+    let k : m - 1 - 1 ≡ n = omega arith in
+    let d : x / 10 / 10 ≡ x / 100 = omega arith in
+    let t : x / 10 % 10 ≡ x % 100 / 10 = omega arith in
+    let u : x % 10 ≡ x % 100 % 10 = omega arith in
+    digits-step m x (omega arith) (omega arith)
+    ∙ ap (λ (xs : List ℕ). xs ++ ((48 + x % 10) ∷ [])) (digits-step (m - 1) (x / 10) (omega arith) (omega arith))
+    ∙ append-assoc (digits (m - 1 - 1) (x / 10 / 10)) ((48 + x / 10 % 10) ∷ []) ((48 + x % 10) ∷ [])
+    ∙ (λ i. digits (k i) (d i) ++ ((48 + t i) ∷ (48 + u i) ∷ []))
+
+pub pair-puts : (x at : ℕ) (l : List ℕ) → Puts (pairOf x) at l (at + 2) (set (set l at (48 + x / 10)) (at + 1) (48 + x % 10))
 unfolding put
-digit-more m x at l p o n h f =
-    rw (digits-step m x (omega arith) h)
-    (puts-then (digits (m - 1) (x / 10)) ((48 + x % 10) ∷ []) at l p o (p + 1) (set o p (48 + x % 10)) f (record { place = refl; text = refl }))
+pair-puts x at l = record { place = refl; text = refl }
+
+pub digits-are-two : (m x at : ℕ) (l : List ℕ) (r : ℕ) (o : List ℕ) → 1 < m → 10 ≤ x → x < 100 → Puts (pairOf x) at l r o → Puts (digits m x) at l r o
+digits-are-two m x at l r o h k g f = rw (digits-two m x h k g) f
+
+pub pair-more : (m n x at : ℕ) (l : List ℕ) (p : ℕ) (o : List ℕ) (r : ℕ) (u : List ℕ) → m ≡ n + 2 → 100 ≤ x → Puts (digits n (x / 100)) at l p o
+    → Puts (pairOf (x % 100)) p o r u → Puts (digits m x) at l r u
+pair-more m n x at l p o r u e h f g = rw (digits-pair m n x e h) (puts-then (digits n (x / 100)) (pairOf (x % 100)) at l p o r u f g)

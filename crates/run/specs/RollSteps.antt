@@ -1,7 +1,7 @@
 -- What the inner functions of the roll's text ask and give: no reader needs it to believe the text. Assumes nothing.
-use Prim.Native.Nat.{ℕ, _+_, _-_, _*_, _≤_, _<_}
+use Prim.Native.Nat.{ℕ, _+_, _-_, _*_, _/_, _%_, _≤_, _<_}
 use mathlib.Core.Bool.{Bool, true, false, _||_}
-use mathlib.Core.List.{List, [], _++_}
+use mathlib.Core.List.{List, [], _∷_, _++_}
 use mathlib.Core.Path.{_≡_}
 use lib.ListN.{length}
 use Rattle.message.specs.Limits.{headLength, blockWidth}
@@ -24,7 +24,7 @@ use Rattle.run.specs.declared.Answered.{Answered}
 use Rattle.run.specs.declared.Answered.the-variants as answers
 use Rattle.run.specs.declared.Offer.{Offer}
 use Rattle.run.specs.Texts.{ascii, decimal}
-use Rattle.run.specs.Roll.{mostRoll, mostEvents, sizesLength, eventsOf, markPlace, lengthAt, bodiesPlace, misfits, misshapen, offeredAt, priorityAt, callsFrom}
+use Rattle.run.specs.Roll.{mostRoll, mostEvents, sizesLength, eventsOf, markPlace, kindAt, zeroAt, lengthAt, bodiesPlace, misfits, misshapen, offeredAt, priorityAt, callsFrom}
 use Rattle.run.specs.RollText.{markText, lineOf, linesOf, stepOf}
 use Rattle.run.specs.Held.{openRefuses, heldAfter, firstCalls}
 use Rattle.run.specs.MadeBytes.{noAct}
@@ -70,6 +70,10 @@ answerText d parted (answers.Acted a) = actedText d parted a
 pub record Puts (xs : List ℕ) (at : ℕ) (before : List ℕ) (r : ℕ) (after : List ℕ) : Type 0 where
   pub place : r ≡ at + length xs
   pub text : after ≡ put before at xs
+
+-- the two digits of a number below 100
+abbrev pub pairOf : ℕ → List ℕ
+pairOf x = (48 + x / 10) ∷ (48 + x % 10) ∷ []
 
 -- what is still to be written, xs at place p, makes the whole text z, which ends at r
 pub record Remains (z : List ℕ) (r : ℕ) (text : List ℕ) (p : ℕ) (xs : List ℕ) : Type 0 where
@@ -132,10 +136,17 @@ lengthFor (makings.Refused number) = 0
 abbrev pub Marked : List ℕ → ℕ → Type 0
 Marked s i = markPlace (i + 1) ≤ length s
 
+-- m is the mark of event i as one number: its kind and a zero in the lower half, its body's length in the upper
+pub record MarkIs (s : List ℕ) (i m : ℕ) : Type 0 where
+  pub start : m % 65536 ≡ kindAt s i + zeroAt s i * 256
+  pub kind : kindAt s i < 256
+  pub body : m / 65536 ≡ lengthAt s i
+  pub short : m / 65536 < 65536
+
 -- event i, whose body starts at place a, lies in the roll
 pub record Lies (s : List ℕ) (i a : ℕ) : Type 0 where
   pub few : i < mostEvents
-  pub mark : markPlace i < length s
+  pub mark : Marked s i
   pub body : a + lengthAt s i ≤ length s
   pub short : length s ≤ mostRoll
 

@@ -3,7 +3,8 @@ ghost use mathlib.Core.Path.{_≡_};
 ghost use Prim.Native.Nat.{_<_};
 ghost use Rattle.bench.specs.Record.{benchFrom};
 ghost use Rattle.bench.specs.Answers.{heldWith};
-ghost use Rattle.run.specs.Roll.{callAt};
+ghost use Rattle.bench.specs.Calls.{act};
+ghost use Rattle.run.specs.Roll.{offeredAt, priorityAt, freshBuffer, callAt};
 ghost use Rattle.run.specs.RollSteps.{offerAt, Lies, EventGives};
 use super::Answered;
 use super::BEGIN_KIND;
@@ -32,6 +33,47 @@ pub(crate) fn offer_in(roll: &[u8], at: usize) -> Offer
     }
 }
 
+// An Act, whose body starts at this place. It is apart from the other calls so that the head is copied for it alone. What the outgoing
+// buffer holds shows nowhere, so that one serves all Acts.
+fn act_event(
+    h: Head,
+    even: &mut [u8; 32],
+    odd: &mut [u8; 32],
+    proposed: &mut [u8; 32],
+    priorities: &mut [u64; 32],
+    names: &mut [u64],
+    counts: &mut [u16],
+    out: &mut [u8; MOST_BYTES],
+    roll: &[u8],
+    at: usize,
+) -> Called
+    requires { ⌜ at < 4294967296 ⌝ }
+    ensures { λ r. ⌜ EventGives (act (offeredAt (now (roll .entry)) at) (priorityAt (now (roll .entry)) at) freshBuffer)
+        (heldWith (benchFrom h (now (even .entry)) (now (odd .entry)) (now (proposed .entry)) (now (priorities .entry))) (now (names .entry)) (now (counts .entry)))
+        (r .answer) (benchFrom (r .head) (now (even .exit)) (now (odd .exit)) (now (proposed .exit)) (now (priorities .exit))) (now (names .exit)) (now (counts .exit)) ⌝ }
+{
+    let offer = offer_in(roll, at);
+    let acted = parts::act(
+        h,
+        even,
+        odd,
+        proposed,
+        priorities,
+        names,
+        counts,
+        out,
+        offer.name,
+        offer.count,
+        offer.priority,
+    );
+    let made = acted.answer;
+    let head = acted.head;
+    Called {
+        answer: Answered::Acted(made),
+        head,
+    }
+}
+
 // Event i, whose body starts at this place.
 pub(crate) fn call_event(
     h: Head,
@@ -41,6 +83,7 @@ pub(crate) fn call_event(
     priorities: &mut [u64; 32],
     names: &mut [u64],
     counts: &mut [u16],
+    out: &mut [u8; MOST_BYTES],
     roll: &[u8],
     i: usize,
     at: usize,
@@ -80,9 +123,7 @@ pub(crate) fn call_event(
             head,
         };
     }
-    let offer = offer_in(roll, at);
-    let mut out = [0; MOST_BYTES];
-    let acted = parts::act(
+    act_event(
         h,
         even,
         odd,
@@ -90,15 +131,8 @@ pub(crate) fn call_event(
         priorities,
         names,
         counts,
-        &mut out,
-        offer.name,
-        offer.count,
-        offer.priority,
-    );
-    let made = acted.answer;
-    let head = acted.head;
-    Called {
-        answer: Answered::Acted(made),
-        head,
-    }
+        out,
+        roll,
+        at,
+    )
 }

@@ -12,6 +12,7 @@ use super::form::events_of;
 use super::form::length_at;
 use super::lines::tell;
 use bench::Bench;
+use bench::MOST_BYTES;
 
 // The record after the calls, and where the text ends.
 pub(crate) struct Ran {
@@ -41,6 +42,7 @@ pub(crate) fn run_events(
     let mut odd = bench.odd;
     let mut proposed = bench.proposed;
     let mut priorities = bench.priorities;
+    let mut out = [0; MOST_BYTES];
     let mut p = at;
     let mut i = 0;
     while i < calls {
@@ -52,6 +54,7 @@ pub(crate) fn run_events(
             &mut priorities,
             names,
             counts,
+            &mut out,
             roll,
             i,
             body,

@@ -2,9 +2,9 @@
 ghost use mathlib.Core.Path.{_≡_};
 ghost use Prim.Native.Nat.{_≤_, _<_};
 ghost use lib.ListN.{length};
-ghost use Rattle.run.specs.Roll.{mostEvents, eventsOf, lengthAt, rightBody, wrongMark, misfits, misshapen, bodiesPlace};
+ghost use Rattle.run.specs.Roll.{mostEvents, eventsOf, lengthAt, rightBody, misfits, misshapen, bodiesPlace};
 ghost use Rattle.run.specs.Held.{bodyPlace};
-ghost use Rattle.run.specs.RollSteps.{Marked, Shaped};
+ghost use Rattle.run.specs.RollSteps.{Marked, MarkIs, Shaped};
 use super::ACT_KIND;
 use super::BEGIN_KIND;
 use super::MARK_LENGTH;
@@ -21,45 +21,54 @@ pub(crate) fn events_of(roll: &[u8]) -> usize
     u16_in(roll, 2) as usize
 }
 
-// The body length of event i.
-pub(crate) fn length_at(roll: &[u8], i: usize) -> usize
-    requires { ⌜ i < mostEvents ⌝ }
-    ensures { λ r. ⌜ (r ≡ lengthAt (now (roll .entry)) i) × (r < 65536) ⌝ }
+fn wide(x: u8) -> u32
+    ensures { λ r. ⌜ (r ≡ x) × (r < 256) ⌝ }
 {
-    u16_in(roll, SIZES_LENGTH + MARK_LENGTH * i + 2) as usize
+    x as u32
 }
 
-fn is_right_body(kind: u8, k: usize) -> bool
-    ensures { λ r. ⌜ r ≡ rightBody kind k ⌝ }
-{
-    ((kind == BEGIN_KIND) & (k == 4))
-        | (((kind == RECEIVE_KIND) & (k <= MOST_BYTES)) | ((kind == ACT_KIND) & (k == 18)))
-}
-
-fn is_wrong_mark(roll: &[u8], i: usize) -> bool
+// The mark of event i as one number: the kind, a zero, and in the upper half the body's length.
+fn mark_at(roll: &[u8], i: usize) -> u32
     requires { ⌜ (i < mostEvents) × Marked (now roll) i ⌝ }
-    ensures { λ r. ⌜ r ≡ wrongMark (now (roll .entry)) i ⌝ }
+    ensures { λ r. ⌜ MarkIs (now (roll .entry)) i r ⌝ }
 {
     let at = SIZES_LENGTH + MARK_LENGTH * i;
-    let k = length_at(roll, i);
-    (roll[at + 1] != 0) | !is_right_body(roll[at], k)
+    (wide(roll[at]) + wide(roll[at + 1]) * 256)
+        + (wide(roll[at + 2]) + wide(roll[at + 3]) * 256) * 65536
 }
 
-// A mark is wrong, or the bodies do not end where the roll ends.
+// The body length of event i.
+pub(crate) fn length_at(roll: &[u8], i: usize) -> usize
+    requires { ⌜ (i < mostEvents) × Marked (now roll) i ⌝ }
+    ensures { λ r. ⌜ (r ≡ lengthAt (now (roll .entry)) i) × (r < 65536) ⌝ }
+{
+    (mark_at(roll, i) / 65536) as usize
+}
+
+fn is_right_body(kind: u32, k: u32) -> bool
+    ensures { λ r. ⌜ r ≡ rightBody kind k ⌝ }
+{
+    ((kind == BEGIN_KIND as u32) & (k == 4))
+        | (((kind == RECEIVE_KIND as u32) & (k <= MOST_BYTES as u32))
+            | ((kind == ACT_KIND as u32) & (k == 18)))
+}
+
+// A mark is wrong, or the bodies do not end where the roll ends. All marks are looked at, without a branch.
 fn is_misfit(roll: &[u8], events: usize) -> bool
     requires { ⌜ (events ≤ mostEvents) × ((events ≡ eventsOf (now roll)) × (bodiesPlace (now roll) ≤ length (now roll))) ⌝ }
     ensures { λ r. ⌜ r ≡ misfits (now (roll .entry)) 0 (bodiesPlace (now (roll .entry))) (eventsOf (now (roll .entry))) ⌝ }
 {
     let mut at = SIZES_LENGTH + MARK_LENGTH * events;
+    let mut wrong = false;
     let mut i = 0;
     while i < events {
-        if is_wrong_mark(roll, i) {
-            return true;
-        }
-        at += length_at(roll, i);
+        let mark = mark_at(roll, i);
+        let k = mark / 65536;
+        wrong = wrong | !is_right_body(mark % 65536, k);
+        at += k as usize;
         i += 1;
     }
-    at != roll.len()
+    wrong | (at != roll.len())
 }
 
 pub(crate) fn is_misshapen(roll: &[u8]) -> bool

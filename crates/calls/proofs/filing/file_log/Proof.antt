@@ -4,23 +4,15 @@ use Rattle.calls.proofs.filing.file_log.Statement.{statement}
 use Rattle.calls.proofs.filing.file_log.Tie as tie
 use Rattle.calls.proofs.filing.file_log.Reads as reads
 use Rattle.calls.proofs.filing.file_log.Lts as lts
-use Rattle.agreement.proofs.filing.file.Reads as file-reads
+use Rattle.calls.proofs.filing.file_slot.Reads as file-slot-reads
 use Rattle.calls.proofs.filing.word.Reads as word-reads
 use Rattle.calls.proofs.record.is_even.Reads as is-even-reads
-use Rattle.calls.proofs.record.logs_place.Reads as logs-place-reads
-use Rattle.calls.proofs.record.of_view.Reads as of-view-reads
-
-logs-place-requires : tie.Need-logs-place-requires
-logs-place-requires c κs = search needs
 
 is-even-requires : tie.Need-is-even-requires
 is-even-requires c κs = search needs
 
-of-view-requires : tie.Need-of-view-requires
-of-view-requires c κs = search needs
-
-file-requires : tie.Need-file-requires
-file-requires c κs = search needs
+file-slot-requires : tie.Need-file-slot-requires
+file-slot-requires c κs = search needs
 
 word-requires : tie.Need-word-requires
 word-requires c κs = search needs
@@ -34,11 +26,8 @@ same-length-2 c = search needs
 returns : tie.Need-returns
 returns c = search filed-even
 
-of-view-requires-2 : tie.Need-of-view-requires-2
-of-view-requires-2 c κs = search needs
-
-file-requires-2 : tie.Need-file-requires-2
-file-requires-2 c κs = search needs
+file-slot-requires-2 : tie.Need-file-slot-requires-2
+file-slot-requires-2 c κs = search needs
 
 word-requires-2 : tie.Need-word-requires-2
 word-requires-2 c κs = search needs
@@ -56,16 +45,13 @@ pub file-log-spec : {M : Type 1} → statement M
 file-log-spec =
     tie.close
     (tie.spec
-    logs-place-requires
     is-even-requires
-    of-view-requires
-    file-requires
+    file-slot-requires
     word-requires
     same-length
     same-length-2
     returns
-    of-view-requires-2
-    file-requires-2
+    file-slot-requires-2
     word-requires-2
     same-length-3
     same-length-4

@@ -11,36 +11,14 @@ use Rattle.agreement.proofs.sets.reaches.Reads as reaches-reads
 reaches-requires : tie.Need-reaches-requires
 reaches-requires c κs = search needs
 
-reaches-requires-2 : tie.Need-reaches-requires-2
-reaches-requires-2 c κs = search needs
-
-reaches-requires-3 : tie.Need-reaches-requires-3
-reaches-requires-3 c κs = search needs
-
-reaches-requires-4 : tie.Need-reaches-requires-4
-reaches-requires-4 c κs = search needs
-
 meet-requires : tie.Need-meet-requires
 meet-requires c κs = search needs
 
 exceeds-requires : tie.Need-exceeds-requires
 exceeds-requires c κs = search needs
 
-exceeds-requires-2 : tie.Need-exceeds-requires-2
-exceeds-requires-2 c κs = search needs
-
 returns : tie.Need-returns
 returns c = search bad-sets
 
 pub are-bad-sets-spec : {M : Type 1} → statement M
-are-bad-sets-spec =
-    tie.close
-    (tie.spec
-    reaches-requires
-    reaches-requires-2
-    reaches-requires-3
-    reaches-requires-4
-    meet-requires
-    exceeds-requires
-    exceeds-requires-2
-    returns)
+are-bad-sets-spec = tie.close (tie.spec reaches-requires meet-requires exceeds-requires returns)

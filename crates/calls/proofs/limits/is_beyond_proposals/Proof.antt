@@ -13,12 +13,8 @@ is-over-requires c κs = search needs
 reaches-requires : tie.Need-reaches-requires
 reaches-requires c κs = search needs
 
-reaches-requires-2 : tie.Need-reaches-requires-2
-reaches-requires-2 c κs = search needs
-
 returns : tie.Need-returns
 returns c = search beyond-proposals
 
 pub is-beyond-proposals-spec : {M : Type 1} → statement M
-is-beyond-proposals-spec =
-    tie.close (tie.spec is-over-requires reaches-requires reaches-requires-2 returns)
+is-beyond-proposals-spec = tie.close (tie.spec is-over-requires reaches-requires returns)

@@ -4,11 +4,10 @@ use Rattle.run.proofs.calling.call_event.Statement.{statement}
 use Rattle.run.proofs.calling.call_event.Tie as tie
 use Rattle.run.proofs.calling.call_event.Reads as reads
 use Rattle.run.proofs.calling.call_event.Lts as lts
-use Rattle.calls.proofs.act.Reads as act-reads
-use Rattle.calls.proofs.begin.Reads as begin-reads
-use Rattle.calls.proofs.receive.Reads as receive-reads
+use Rattle.calls.proofs.parts.begin.Reads as begin-reads
+use Rattle.calls.proofs.parts.receive.Reads as receive-reads
 use Rattle.message.proofs.number.u32_in.Reads as u32-in-reads
-use Rattle.run.proofs.calling.offer_in.Reads as offer-in-reads
+use Rattle.run.proofs.calling.act_event.Reads as act-event-reads
 use Rattle.run.proofs.form.length_at.Reads as length-at-reads
 
 mul-kind : tie.Need-mul-kind
@@ -62,14 +61,8 @@ same-length-4 c = search needs
 returns-2 : tie.Need-returns-2
 returns-2 c = search receive-gives
 
-offer-in-requires : tie.Need-offer-in-requires
-offer-in-requires c κs = search needs
-
-slice-aggregate-act : tie.Need-slice-aggregate-act
-slice-aggregate-act c = search needs
-
-act-requires : tie.Need-act-requires
-act-requires c κs = search needs
+act-event-requires : tie.Need-act-event-requires
+act-event-requires c κs = search needs
 
 same-length-5 : tie.Need-same-length-5
 same-length-5 c = search needs
@@ -101,9 +94,7 @@ call-event-spec =
     same-length-3
     same-length-4
     returns-2
-    offer-in-requires
-    slice-aggregate-act
-    act-requires
+    act-event-requires
     same-length-5
     same-length-6
     returns-3)

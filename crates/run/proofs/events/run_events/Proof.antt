@@ -1,5 +1,5 @@
 use Rattle.run.proofs.HeldLaws.{lies-within, line-room, room-next, ahead-start, ahead-next, ahead-end}
-use Rattle.run.proofs.RollForm.{fit-start, fit-next}
+use Rattle.run.proofs.RollForm.{fit-start, fit-next, marked}
 use native.Mathlib.Omega.{arith}
 use mathlib.Core.Bool.{false}
 use mathlib.Core.Path.{_≡_, refl, _∙_}
@@ -20,10 +20,10 @@ use Rattle.run.proofs.form.length_at.Reads as length-at-reads
 use Rattle.run.proofs.lines.tell.Reads as tell-reads
 
 abbrev Inv-loop : tie.InvT-loop
-Inv-loop names₀ counts₀ roll calls text₀ at prints events body₀ head₀ even₀ odd₀ proposed₀ priorities₀ p₀ i₀ names counts text body head even odd proposed priorities p i = (i ≤ calls) × (calls ≤ events) × (events ≤ 1024) × (body ≤ 4100 + 65536 * i) × (length names ≡ length names₀) × (length counts ≡ length counts₀) × (length text ≡ length text₀) × (misfits roll i body (events - i) ≡ false) × LinesFit prints i p text × Ahead prints roll calls (heldWith (benchFrom head₀ even₀ odd₀ proposed₀ priorities₀) names₀ counts₀) at text₀ i body (heldWith (benchFrom head even odd proposed priorities) names counts) p text
+Inv-loop names₀ counts₀ roll calls text₀ at prints events body₀ head₀ even₀ odd₀ proposed₀ priorities₀ out₀ p₀ i₀ names counts text body head even odd proposed priorities out p i = (i ≤ calls) × (calls ≤ events) × (events ≤ 1024) × (body ≤ 4100 + 65536 * i) × (length names ≡ length names₀) × (length counts ≡ length counts₀) × (length text ≡ length text₀) × (misfits roll i body (events - i) ≡ false) × LinesFit prints i p text × Ahead prints roll calls (heldWith (benchFrom head₀ even₀ odd₀ proposed₀ priorities₀) names₀ counts₀) at text₀ i body (heldWith (benchFrom head even odd proposed priorities) names counts) p text
 
 abbrev μ-loop : tie.MeasureT-loop
-μ-loop names₀ counts₀ roll calls text₀ at prints events body₀ head₀ even₀ odd₀ proposed₀ priorities₀ p₀ i₀ names counts text body head even odd proposed priorities p i = calls - i
+μ-loop names₀ counts₀ roll calls text₀ at prints events body₀ head₀ even₀ odd₀ proposed₀ priorities₀ out₀ p₀ i₀ names counts text body head even odd proposed priorities out p i = calls - i
 
 events-of-requires : tie.Need-events-of-requires Inv-loop μ-loop
 events-of-requires c κs = search needs
@@ -42,12 +42,14 @@ call-event-requires c κs = search lies-within
 
 tell-requires : tie.Need-tell-requires Inv-loop μ-loop
 tell-requires c κs =
-    let inside = c .before .before .before .before .before .before .before .before .before .before .before .before .before in
+    let inside = c .before .before .before .before .before .before .before .before .before .before .before .before .before .before in
     let inv = inside .before .loop .inv in
     line-room _ _ _ _ (inv .8) _ _ (inside .loop-test .taken) (inv .1) (inv .2)
 
 length-at-requires : tie.Need-length-at-requires Inv-loop μ-loop
-length-at-requires c κs = search needs
+length-at-requires c κs =
+    let given = c .before .before .before .before .before .before .before .before .before .before .before .before .before .before .before .before .before .before .before .before .before .before .before .before .before .before .before .before .before .pre .0 in
+    marked _ _ _ (given .0) (given .1) (c .before .before .before .before .before .before .before .before .before .before .before .before .before .before .before .before .before .loop-test .taken)
 
 add-body-2 : tie.Need-add-body-2 Inv-loop μ-loop
 add-body-2 c = search needs
@@ -62,7 +64,7 @@ loop-again : tie.Need-loop-again Inv-loop μ-loop
 loop-again c =
     let told = c .before .before .before in
     let called = told .before .before .before .before .before .before .before in
-    let inside = called .before .before .before .before .before .before .before in
+    let inside = called .before .before .before .before .before .before .before .before in
     let inv = inside .before .loop .inv in (
       search needs,
       search needs,

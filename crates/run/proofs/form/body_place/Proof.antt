@@ -1,3 +1,4 @@
+use Rattle.run.proofs.RollForm.{marked}
 use Rattle.run.proofs.HeldLaws.{body-start, body-next, body-end}
 use native.Mathlib.Omega.{arith}
 use mathlib.Core.Path.{_≡_}
@@ -27,7 +28,7 @@ loop-holds : tie.Need-loop-holds Inv-loop μ-loop
 loop-holds c = (search needs, search needs, search needs, search body-start)
 
 length-at-requires : tie.Need-length-at-requires Inv-loop μ-loop
-length-at-requires c κs = search needs
+length-at-requires c κs = let given = c .before .before .before .before .pre in marked _ _ _ (given .0) (given .1) (c .loop-test .taken)
 
 add-at-2 : tie.Need-add-at-2 Inv-loop μ-loop
 add-at-2 c = search needs
