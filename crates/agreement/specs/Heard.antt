@@ -7,7 +7,7 @@ use mathlib.Core.Option.{Option, some, none}
 use lib.Dec.{eqb}
 use Rattle.message.specs.Choice.{pick}
 use Rattle.message.specs.Logs.{Log, isPrefix, sameLog}
-use Rattle.message.specs.Message.{Content}
+use Rattle.message.specs.Message.{Content, agreementNumber}
 use Rattle.agreement.specs.Reading.{Reading, longest}
 use Rattle.agreement.specs.Kept.{Kept, nothing, only, differing, heardOf, singleOf, Proposed, sameProposal}
 use Rattle.agreement.specs.Proposals.{bestOf}
@@ -29,7 +29,7 @@ keptOf same (x ∷ xs) = pick (someDiffers same x xs) differing (only x)
 -- the logs of the LOGs of view v that bear sender s's number
 unfoldable pub logsFrom : List Content → ℕ → ℕ → List Log
 logsFrom [] v s = []
-logsFrom (m ∷ ms) v s = pick (eqb (m .view) v && eqb (m .sender) s) (m .log ∷ logsFrom ms v s) (logsFrom ms v s)
+logsFrom (m ∷ ms) v s = pick (eqb (agreementNumber m) v && eqb (m .sender) s) (m .log ∷ logsFrom ms v s) (logsFrom ms v s)
 
 -- GA v: what each sender's LOGs come to
 abbrev pub heardLogs : List Content → ℕ → ℕ → Kept Log

@@ -10,7 +10,7 @@ use lib.ListN.{length}
 use Rattle.message.specs.Choice.{pick}
 use Rattle.message.specs.Numbers.{put}
 use Rattle.message.specs.Logs.{Block, Log, isPrefix, namesOf, countsOf}
-use Rattle.message.specs.Message.{Meaning, logMessage, proposalMessage, bytesOf, Reading, refused as unread, means, readOf}
+use Rattle.message.specs.Message.{agreementNumber, Meaning, logMessage, proposalMessage, bytesOf, Reading, refused as unread, means, readOf}
 use Rattle.message.specs.Store.{logAt}
 use Rattle.agreement.specs.Limits.{mostSenders}
 use Rattle.agreement.specs.Sets.{isYes}
@@ -109,7 +109,7 @@ fileProposal s bytes v i priority =
 
 -- by its kind: one rule for messages received and for one's own
 unfoldable pub fileMessage : State → List ℕ → Meaning → Outcome
-fileMessage s bytes (logMessage m) = fileLog s bytes (m .view) (m .sender)
+fileMessage s bytes (logMessage m) = fileLog s bytes (agreementNumber m) (m .sender)
 fileMessage s bytes (proposalMessage m priority) = fileProposal s bytes (m .view) (m .sender) priority
 
 -- ---- Receive

@@ -6,7 +6,7 @@ use mathlib.Core.Option.{Option}
 use lib.ListN.{length}
 use Rattle.message.specs.Numbers.{AllBelow}
 use Rattle.message.specs.Logs.{Block}
-use Rattle.message.specs.Message.{Meaning, logMessage, proposalMessage}
+use Rattle.message.specs.Message.{agreementNumber, Meaning, logMessage, proposalMessage}
 use Rattle.agreement.specs.Filing.{Word}
 use Rattle.bench.specs.Calendar.{logWindow, proposalWindow}
 use Rattle.bench.specs.Layout.{Lent}
@@ -52,7 +52,7 @@ pub record Step : Type 0 where
 
 -- 21: whether a message's view is open to its kind at a beat
 abbrev pub openTo : Meaning → ℕ → Bool
-openTo (logMessage m) b = logWindow (m .view) b
+openTo (logMessage m) b = logWindow (agreementNumber m) b
 openTo (proposalMessage m priority) b = proposalWindow (m .view) b
 
 -- ---- the code's types: there are no other calls

@@ -9,7 +9,7 @@ use lib.Dec.{eqb, leb, ltb}
 use lib.ListN.{length}
 use Rattle.message.specs.Choice.{pick}
 use Rattle.message.specs.Logs.{Block, Log, sameLog}
-use Rattle.message.specs.Message.{Content, Meaning, logMessage, proposalMessage, Reading, refused as unread, means}
+use Rattle.message.specs.Message.{Content, agreementNumber, Meaning, logMessage, proposalMessage, Reading, refused as unread, means}
 use Rattle.agreement.specs.Record.{SnapshotNumber, one, two}
 use Rattle.agreement.specs.Filing.{Word}
 use Rattle.agreement.specs.Kept.{wordOn, sameProposal}
@@ -89,7 +89,7 @@ refusal S p (act block priority out) = actRefusal p out
 
 -- the answer to a message taken, by what its sender's of that kind and view come to so far
 unfoldable pub wordFor : History → Meaning → Word
-wordFor p (logMessage m) = wordOn sameLog (heardLogs (p .heard) (m .view) (m .sender)) (m .log)
+wordFor p (logMessage m) = wordOn sameLog (heardLogs (p .heard) (agreementNumber m) (m .sender)) (m .log)
 wordFor p (proposalMessage m priority) =
     wordOn sameProposal (heardProposals (p .proposals) (m .view) (m .sender)) (record { log = m .log; priority = priority })
 

@@ -22,6 +22,10 @@ pub record Content : Type 0 where
   pub view : ℕ
   pub log : Log
 
+-- The number of the agreement in which a LOG counts: each view has one, GA v. Hearing, filing and windows of LOGs go by this number.
+abbrev pub agreementNumber : Content → ℕ
+agreementNumber m = m .view
+
 -- A LOG is a content; a PROPOSAL has a priority besides.
 pub data Meaning : Type 0 where
   logMessage : Content → Meaning
