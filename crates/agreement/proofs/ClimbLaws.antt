@@ -2,25 +2,24 @@
 use Prim.Native.Nat.{ℕ, _+_, _*_, _≤_, _<_}
 use native.Mathlib.Decide.{decLe}
 use native.Mathlib.Omega.{arith}
-use mathlib.Core.Bool.{Bool, true, _&&_, and-assoc, and-eq-true-iff}
+use mathlib.Core.Bool.{Bool, true, _&&_, and-true, and-assoc, and-eq-true-iff}
 use mathlib.Core.List.{List, []}
 use mathlib.Core.Logic.{inl, inr}
 use mathlib.Core.Path.{_≡_, refl, sym, ap, subst, _∙_}
 use lib.Dec.{leb, ltb}
 use lib.ListN.{length, getD}
 use Rattle.message.specs.Limits.{mostBlocks}
-use Rattle.message.specs.Logs.{Block, Log, Prefix, sameBlock, isPrefix}
+use Rattle.message.specs.Logs.{Block, Log, Prefix, empty, sameBlock, isPrefix}
 use Rattle.message.specs.Store.{logAt}
 use Rattle.message.proofs.LogLaws.{prefix-trans, prefix-length, prefix-same, prefix-shorter, compatible-under, sameBlock-eq, isPrefix-iff}
-use Rattle.message.proofs.ListedLaws.{length-at, log-empty, prefix-at, prefix-there}
+use Rattle.message.proofs.ListedLaws.{length-at, log-empty, prefix-at, prefix-there, prefix-one-more}
 use Rattle.agreement.specs.Limits.{mostSenders, placeOf}
 use Rattle.agreement.specs.Sets.{ones, count, member}
 use Rattle.agreement.specs.Record.{filedLog}
 use Rattle.agreement.specs.Steps.{SetOf, backing, Majority, nextBlock, narrowed, runLength, alike, narrowedBy, Far, holding, Voted, Climbing, Following, Climbed}
 use Rattle.agreement.specs.declared.Grade.the-variants.{Longest}
 use Rattle.agreement.proofs.SetLaws.{Meet, weigh-mono, weigh-meet, weigh-some, weigh-cong}
-use Rattle.agreement.proofs.MaskLaws.{and-true}
-use Rattle.agreement.proofs.NarrowLaws.{prefix-one-more, prefix-run}
+use Rattle.agreement.proofs.NarrowLaws.{prefix-run}
 
 module _ (names counts : List ℕ) (base : ℕ) (lengths : List ℕ) (may : ℕ) (all : ℕ) where
   -- the first l blocks at sender i's place
@@ -50,8 +49,7 @@ module _ (names counts : List ℕ) (base : ℕ) (lengths : List ℕ) (may : ℕ)
 
   -- all who may support back the empty log
   pub back-empty : (j : ℕ) → j < mostSenders → back [] j ≡ member may j
-  unfolding isPrefix
-  back-empty j l = and-true (member may j)
+  back-empty j l = ap (λ (t : Bool). member may j && t) (isPrefix-iff [] (log j) .1 empty) ∙ and-true (member may j)
 
   pub follow-all : Climbing names counts base lengths may all → Following names counts base lengths may all 0 0 may
   follow-all k = record {

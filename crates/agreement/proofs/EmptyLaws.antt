@@ -16,6 +16,7 @@ use Rattle.agreement.specs.Record.{emptyAgreement, isSender, lacksRoom, 
 use Rattle.agreement.specs.Grades.{gradeAmong, gradeOf}
 use Rattle.agreement.specs.Proposals.{emptyProposals, fits, choiceOf}
 use Rattle.agreement.specs.Tally.{supportersOf}
+use Rattle.agreement.specs.Kept.{nothing, keptLog, keptProposal}
 use Rattle.agreement.proofs.MaskLaws.{member-zero}
 use Rattle.agreement.proofs.LimitLaws.{some-no}
 use Rattle.agreement.proofs.ReadingLaws.{may-iff, grade-supporter}
@@ -56,3 +57,13 @@ unfolding supportersOf supports maySupport
 empty-supporters names counts base v among L =
     either (lacksRoom names counts base || overlong (replicate mostSenders 0)) (λ t. rw t)
     (λ t. rw t (none-count (supports (readingOf names counts base (emptyAgreement v) among) L) (λ i l. rw (member-zero i))))
+
+-- ---- and nothing is kept
+
+pub empty-kept : (names counts : List ℕ) (base v i : ℕ) → keptLog names counts base (emptyAgreement v) i ≡ nothing
+unfolding keptLog
+empty-kept names counts base v i = rw (member-zero i)
+
+pub empty-proposal-kept : (names counts : List ℕ) (base v i : ℕ) → keptProposal names counts base (emptyProposals v) i ≡ nothing
+unfolding keptProposal
+empty-proposal-kept names counts base v i = rw (member-zero i)

@@ -17,7 +17,7 @@ use Rattle.message.proofs.TestLaws.{either, or-false}
 use Rattle.message.proofs.LogLaws.{sameLog-iff}
 use Rattle.message.proofs.ListedLaws.{Within, length-at, of-within}
 use Rattle.message.proofs.Acceptance.{length-blocks}
-use Rattle.message.proofs.Inside.{matches-inside, stored-inside}
+use Rattle.message.proofs.Inside.{matches-inside, matches-outside, stored-inside}
 use Rattle.agreement.specs.Limits.{mostSenders, span, placeOf}
 use Rattle.agreement.specs.Record.{lacksRoom}
 use Rattle.agreement.specs.Filing.{unfit, Fit}
@@ -87,8 +87,7 @@ module _ (names counts : List ℕ) (base : ℕ) (s : List ℕ) (i : ℕ) where
         (λ q. q)
 
     matches-long : (a k : ℕ) → mostBlocks < k → matchesAt s names counts a k ≡ false
-    unfolding matchesAt
-    matches-long a k h = rw (lt-leb k mostBlocks h, f .holds)
+    matches-long a k h = matches-outside s names counts a k (rw (lt-leb k mostBlocks h))
 
     -- the test of the lists is the test of the logs, whatever length is stored
     pub matches-filed : (k : ℕ) → matchesAt s names counts (placeOf base i) k ≡ sameLog (logIn s) (logAt names counts (placeOf base i) k)

@@ -63,6 +63,10 @@ module _ (n : ℕ) (w : ℕ → ℕ) (logs : ℕ → Kept Log) where
   unfolding gradeNow
   gradeNow-source L e = longest-source (λ (s : ℕ). singleOf (logs s)) L e
 
+  pub gradeWith-none : gradeWith n w logs none ≡ none
+  unfolding gradeWith
+  gradeWith-none = refl
+
   pub gradeWith-source : (o : Option (ℕ → Bool)) (L : Log) → gradeWith n w logs o ≡ some L → GradeSource n logs L
   unfolding gradeWith
   gradeWith-source none L e = absurd (Option·none-ne-some L e)

@@ -7,7 +7,7 @@ use mathlib.Core.Bool.{Bool, true, false, _&&_, _||_, false≢true}
 use mathlib.Core.List.{List}
 use mathlib.Core.Path.{_≡_, refl, sym, ap, _∙_}
 use lib.Dec.{eqb}
-use lib.ListN.{getD}
+use lib.ListN.{length, getD}
 use lib.Seq.{getD-set-same, getD-set-other}
 use Rattle.message.specs.Limits.{mostBlocks}
 use Rattle.message.specs.Choice.{pick}
@@ -15,17 +15,17 @@ use Rattle.message.specs.Numbers.{put}
 use Rattle.message.specs.Logs.{sameLog, namesOf, countsOf}
 use Rattle.message.specs.Message.{countIn, logIn}
 use Rattle.message.specs.Store.{logAt}
-use Rattle.message.proofs.TestLaws.{either}
+use Rattle.message.proofs.TestLaws.{either, or-false}
 use Rattle.message.proofs.Acceptance.{length-blocks}
-use Rattle.message.proofs.ListedLaws.{log-stored, log-before, log-past}
+use Rattle.message.proofs.ListedLaws.{length-at, log-stored, log-before, log-past}
 use Rattle.agreement.specs.Limits.{placeOf}
 use Rattle.agreement.specs.Sets.{member}
-use Rattle.agreement.specs.Record.{Agreement, isVoter, isEquivocator, isSender, filedLog}
+use Rattle.agreement.specs.Record.{Agreement, isVoter, isEquivocator, isSender, filedLog, withFirst, withSecond, SnapshotNumber, one, two, withSnapshot}
 use Rattle.agreement.specs.Filing.{unfit, fileOf, Fit}
-use Rattle.agreement.specs.Proposals.{Proposals, fileProposalOf}
-use Rattle.agreement.specs.Kept.{nothing, only, differing, Sized, SizedProposals, SameRest, heardOf, singleOf, wordOn, keep, keptLog, Proposed, sameProposal, keptProposal}
+use Rattle.agreement.specs.Proposals.{Proposals, withProposal, withAside, fileProposalOf}
+use Rattle.agreement.specs.Kept.{Kept, nothing, only, differing, Sized, SizedProposals, SameRest, heardOf, singleOf, wordOn, keep, keptLog, Proposed, sameProposal, keptProposal}
 use Rattle.agreement.proofs.MaskLaws.{adding-same, adding-other, removing-other}
-use Rattle.agreement.proofs.FilingLaws.{fit-not-unfit, few-blocks}
+use Rattle.agreement.proofs.FilingLaws.{fit, fit-not-unfit, few-blocks}
 
 -- by what was found: two differed before; there is one, and this is the same, or another; there is none
 pub cases : (A : Type 0) (q v e : Bool) → (q ≡ true → A) → (q ≡ false → v ≡ true → e ≡ true → A) → (q ≡ false → v ≡ true → e ≡ false → A) → (q ≡ false → v ≡ false → A) → A
@@ -113,16 +113,30 @@ module _ (g : Agreement) (names counts : List ℕ) (base : ℕ) (s : List ℕ) (
         filed-apart names counts base s i f j (getD (g .lengths) j 0) d h,
       ) refl)
 
+-- Whatever was handed in, filing leaves the record as it was, or with one more LOG that fits: another of the sender, or its first.
+module _ (g : Agreement) (names counts : List ℕ) (base : ℕ) (s : List ℕ) (i : ℕ) where
+  pub file-cases : (P : Agreement → Type 0) → P g → (Fit names counts base s i → P (withSecond g i))
+      → (Fit names counts base s i → isEquivocator g i ≡ false → P (withFirst g i (countIn s)))
+      → P (fileOf g names counts base s i .agreement)
+  unfolding fileOf
+  file-cases P old another new =
+      cases (P (fileOf g names counts base s i .agreement))
+      (unfit names counts base s i || isEquivocator g i) (isVoter g i) (sameLog (logIn s) (filedLog names counts base (g .lengths) i))
+      (λ q. rw q old)
+      (λ q v e. rw (q, v, e) old)
+      (λ q v e. rw (q, v, e) (another (fit names counts base s i (both q .0))))
+      (λ q v. rw (q, v) (new (fit names counts base s i (both q .0)) (both q .1)))
+    where
+      both : (unfit names counts base s i || isEquivocator g i) ≡ false → (unfit names counts base s i ≡ false) × (isEquivocator g i ≡ false)
+      both q = or-false (unfit names counts base s i) (isEquivocator g i) q
+
 -- filing changes nothing else of the record, whatever was handed in
 pub file-rest : (g : Agreement) (names counts : List ℕ) (base : ℕ) (s : List ℕ) (i : ℕ) → SameRest g (fileOf g names counts base s i .agreement)
-unfolding fileOf
 file-rest g names counts base s i =
-    cases (SameRest g (fileOf g names counts base s i .agreement))
-    (unfit names counts base s i || isEquivocator g i) (isVoter g i) (sameLog (logIn s) (filedLog names counts base (g .lengths) i))
-    (λ q. rw q (record { view = refl; one = refl; two = refl }))
-    (λ q v e. rw (q, v, e) (record { view = refl; one = refl; two = refl }))
-    (λ q v e. rw (q, v, e) (record { view = refl; one = refl; two = refl }))
-    (λ q v. rw (q, v) (record { view = refl; one = refl; two = refl }))
+    file-cases g names counts base s i (SameRest g)
+    (record { view = refl; one = refl; two = refl })
+    (λ f. record { view = refl; one = refl; two = refl })
+    (λ f e. record { view = refl; one = refl; two = refl })
 
 -- ---- what a grade reads, by what is kept
 
@@ -152,6 +166,13 @@ module _ (names counts : List ℕ) (base : ℕ) (g : Agreement) (i : ℕ) where
     pub kept-only : isVoter g i ≡ true → keptLog names counts base g i ≡ only (filedLog names counts base (g .lengths) i)
     unfolding keptLog
     kept-only v = either (isEquivocator g i) (λ e. absurd (false≢true (sym apart ∙ rw (v, e) refl))) (λ e. rw (e, v) refl)
+
+-- a snapshot leaves what is kept
+pub kept-snapshot : (k : SnapshotNumber) (names counts : List ℕ) (base : ℕ) (g : Agreement) (i : ℕ)
+    → keptLog names counts base (withSnapshot k g) i ≡ keptLog names counts base g i
+unfolding keptLog
+kept-snapshot one names counts base g i = refl
+kept-snapshot two names counts base g i = refl
 
 -- ---- the same of proposals
 
@@ -216,3 +237,39 @@ module _ (g : Proposals) (names counts : List ℕ) (base : ℕ) (s : List ℕ) (
         getD-set-other (g .priorities) i j priority 0 d,
         filed-apart names counts base s i f j (getD (g .lengths) j 0) d h,
       ) refl)
+
+module _ (g : Proposals) (names counts : List ℕ) (base : ℕ) (s : List ℕ) (i priority : ℕ) where
+  pub proposal-cases : (P : Proposals → Type 0) → P g → (Fit names counts base s i → P (withAside g i))
+      → (Fit names counts base s i → P (withProposal g i (countIn s) priority))
+      → P (fileProposalOf g names counts base s i priority .proposals)
+  unfolding fileProposalOf
+  proposal-cases P old another new =
+      cases (P (fileProposalOf g names counts base s i priority .proposals))
+      (unfit names counts base s i || member (g .marks .aside) i) (member (g .marks .filed) i)
+      (sameLog (logIn s) (filedLog names counts base (g .lengths) i) && eqb priority (getD (g .priorities) i 0))
+      (λ q. rw q old)
+      (λ q v e. rw (q, v, e) old)
+      (λ q v e. rw (q, v, e) (another (fits q)))
+      (λ q v. rw (q, v) (new (fits q)))
+    where
+      fits : (unfit names counts base s i || member (g .marks .aside) i) ≡ false → Fit names counts base s i
+      fits q = fit names counts base s i (or-false (unfit names counts base s i) _ q .0)
+
+  pub proposal-view : fileProposalOf g names counts base s i priority .proposals .marks .view ≡ g .marks .view
+  proposal-view = proposal-cases (λ (h : Proposals). h .marks .view ≡ g .marks .view) refl (λ f. refl) (λ f. refl)
+
+-- the one proposal kept of a sender has as many blocks as the record says
+pub kept-length : (names counts : List ℕ) (base : ℕ) (g : Proposals) (i : ℕ) (a : Proposed) → keptProposal names counts base g i ≡ only a
+    → length (a .log) ≡ getD (g .lengths) i 0
+unfolding keptProposal
+kept-length names counts base g i a e =
+    either (member (g .marks .aside) i)
+    (λ t. absurd (false≢true (ap singleOf (rw t at e))))
+    (λ t. either (member (g .marks .filed) i)
+    (λ f. ap lengthOf (sym (rw (t, f) at e)) ∙ length-at names counts (placeOf base i) (getD (g .lengths) i 0))
+    (λ f. absurd (false≢true (ap singleOf (rw (t, f) at e)))))
+  where
+    lengthOf : Kept Proposed → ℕ
+    lengthOf nothing = 0
+    lengthOf (only b) = length (b .log)
+    lengthOf differing = 0

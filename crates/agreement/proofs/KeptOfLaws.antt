@@ -56,6 +56,15 @@ other u t v s (inr h) = rw (ne-eqb t s (Ne·symm h)) (and-false (eqb u v))
 
 -- ---- LOGs
 
+pub logsFrom-nil : (v s : ℕ) → logsFrom [] v s ≡ []
+unfolding logsFrom
+logsFrom-nil v s = refl
+
+pub logsFrom-cons : (m : Content) (ms : List Content) (v s : ℕ)
+    → logsFrom (m ∷ ms) v s ≡ pick (eqb (m .view) v && eqb (m .sender) s) (m .log ∷ logsFrom ms v s) (logsFrom ms v s)
+unfolding logsFrom
+logsFrom-cons m ms v s = refl
+
 module _ (heard : List Content) (m : Content) where
   -- one more of its sender and view
   pub heard-same : heardLogs (m ∷ heard) (m .view) (m .sender) ≡ keep sameLog (heardLogs heard (m .view) (m .sender)) (m .log)

@@ -3,7 +3,7 @@ use Prim.Native.Nat.{ℕ, zero, suc, _+_, _-_, _*_, _/_, _%_, _^_, _≤_, _<_, m
 use native.Mathlib.Nat.{mod-lt, mod-one, mod-eq-of-lt, pow-suc, pow-succ', two-pow-succ, div-eq-of-lt, div-self, div-lt-iff-lt-mul, lt-of-lt-of-le, mul-mod-left}
 use native.Mathlib.Decide.{decLe}
 use native.Mathlib.Omega.{arith}
-use mathlib.Core.Bool.{Bool, true, false, not, _&&_, _||_, and-false}
+use mathlib.Core.Bool.{Bool, true, false, not, _&&_, _||_, and-true, and-false}
 use mathlib.Core.Path.{_≡_, refl, sym, ap, ap₂, subst, _∙_}
 use borrow.Author.Tests.{eqb-true, eqb-false}
 use lib.Dec.{eqb}
@@ -56,12 +56,6 @@ xor-low x y =
     ap (λ (z : ℕ). z % 2) (xor-step x y)
     ∙ digits-mod (bitXor (x / 2) (y / 2))
     (digits (λ (p q : ℕ). differ p q < 2) (omega arith) (omega arith) (omega arith) (omega arith) (x % 2) (y % 2) (digit-lt x) (digit-lt y))
-
--- ---- tests
-
-pub and-true : (t : Bool) → (t && true) ≡ t
-and-true true = refl
-and-true false = refl
 
 -- ---- two sets
 

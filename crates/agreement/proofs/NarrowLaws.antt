@@ -1,33 +1,27 @@
 -- One block more, or a run of them: which logs start so, and the set of the followers whose log does. Assumes nothing.
 use Prim.Native.Nat.{ℕ, zero, suc, _+_, _/_, _%_, _^_, _≤_, _<_}
 use native.Mathlib.Omega.{arith}
-use mathlib.Core.Bool.{Bool, true, false, _&&_, and-assoc, false≢true}
+use mathlib.Core.Bool.{Bool, true, false, _&&_, false≢true}
 use mathlib.Core.List.{List}
 use mathlib.Core.Path.{_≡_, refl, sym, ap, subst, _∙_}
-use borrow.Author.Tests.{ltb-true, ltb-false, lt-ltb, le-ltb, leb-true, le-leb, lt-leb}
+use borrow.Author.Tests.{ltb-true, ltb-false, leb-true, le-leb, lt-leb}
 use lib.Dec.{ltb, leb, eqb}
 use lib.ListN.{getD}
 use Rattle.message.specs.Limits.{mostBlocks}
-use Rattle.message.specs.Numbers.{part}
-use Rattle.message.specs.Logs.{sameBlock, isPrefix, inStep}
+use Rattle.message.specs.Logs.{sameBlock, isPrefix}
 use Rattle.message.specs.Store.{blockAt, logAt}
 use Rattle.message.proofs.TestLaws.{either}
 use Rattle.message.proofs.LogLaws.{prefix-length, isPrefix-iff}
-use Rattle.message.proofs.ListedLaws.{length-at}
+use Rattle.message.proofs.ListedLaws.{length-at, prefix-one-more}
 use Rattle.agreement.specs.Limits.{mostSenders, placeOf}
 use Rattle.agreement.specs.Sets.{weigh, member, adding}
 use Rattle.agreement.specs.Steps.{SetOf, Walks, nextBlock, narrowed, runLength, alike, narrowedBy, Far, Next, Run}
-use Rattle.agreement.proofs.MaskLaws.{and-true}
 use Rattle.agreement.proofs.CountLaws.{walk-start, walk-next, walk-below, walk-room, set-none, pass-skip, pass-yes, pass-no, pass-end}
 
 -- to have more than l is to have l + 1
 over : (l m y : ℕ) → m ≡ l + 1 → ltb l y ≡ leb m y
 over l m y e =
     either (ltb l y) (λ t. t ∙ sym (le-leb m y (let x = ltb-true l y t in omega arith))) (λ t. t ∙ sym (lt-leb m y (let x = ltb-false l y t in omega arith)))
-
-ltb-suc : (l y : ℕ) → ltb l y ≡ ltb (suc l) (suc y)
-ltb-suc l y =
-    either (ltb l y) (λ t. t ∙ sym (lt-ltb (suc l) (suc y) (omega (arith, ltb-true l y t)))) (λ t. t ∙ sym (le-ltb (suc l) (suc y) (omega (arith, ltb-false l y t))))
 
 module _ (names counts : List ℕ) where
   -- the blocks at places a and b are the same
@@ -38,32 +32,6 @@ module _ (names counts : List ℕ) where
   pub next-same : (base l i j p q : ℕ) (r : Bool) → p ≡ placeOf base i → q ≡ placeOf base j → r ≡ sameBlock (blockAt names counts (p + l)) (blockAt names counts (q + l))
       → r ≡ sameBlock (nextBlock names counts base l i) (nextBlock names counts base l j)
   next-same base l i j p q r d e f = f ∙ (λ k. sameBlock (blockAt names counts (d k + l)) (blockAt names counts (e k + l)))
-
-  longer : (a b l y : ℕ) → isPrefix (logAt names counts a (suc l)) (logAt names counts b y)
-      ≡ (isPrefix (logAt names counts a l) (logAt names counts b y) && (ltb l y && same (a + l) (b + l)))
-  unfolding isPrefix logAt part inStep
-  longer a b zero zero = sym (ap (λ (t : Bool). t && same (a + 0) (b + 0)) (le-ltb 0 0 (omega arith)))
-  longer a b zero (suc y) =
-      let p : a ≡ a + 0 = omega arith in
-      let q : b ≡ b + 0 = omega arith in
-      let t = sym (lt-ltb 0 (suc y) (omega arith)) in
-      and-true (same a b) ∙ (λ i. t i && same (p i) (q i))
-  longer a b (suc l) zero = refl
-  longer a b (suc l) (suc y) =
-      let p : a + 1 + l ≡ a + suc l = omega arith in
-      let q : b + 1 + l ≡ b + suc l = omega arith in
-      let t = ltb-suc l y in
-      let s = isPrefix (logAt names counts (a + 1) l) (logAt names counts (b + 1) y) in
-      ap (λ (u : Bool). same a b && u) (longer (a + 1) (b + 1) l y)
-      ∙ sym (and-assoc (same a b) s (ltb l y && same (a + 1 + l) (b + 1 + l)))
-      ∙ (λ i. (same a b && s) && (t i && same (p i) (q i)))
-
-  -- l + 1 blocks are a prefix of a log where l blocks are, the log has more than l, and the next one is the same
-  pub prefix-one-more : (a b l y : ℕ) → isPrefix (logAt names counts a (l + 1)) (logAt names counts b y)
-      ≡ (isPrefix (logAt names counts a l) (logAt names counts b y) && (ltb l y && same (a + l) (b + l)))
-  prefix-one-more a b l y =
-      let s : l + 1 ≡ suc l = omega arith in
-      ap (λ (k : ℕ). isPrefix (logAt names counts a k) (logAt names counts b y)) s ∙ longer a b l y
 
   -- ---- a run of blocks
 
@@ -113,7 +81,7 @@ module _ (names counts : List ℕ) where
       let z = isPrefix (logAt names counts a l) (logAt names counts b y) in
       let t = over (l + k) (l + suc k) y (omega arith) in
       ap (λ (n : ℕ). isPrefix (logAt names counts a n) (logAt names counts b y)) s
-      ∙ prefix-one-more a b (l + k) y
+      ∙ prefix-one-more names counts a b (l + k) y
       ∙ ap (λ (u : Bool). u && (ltb (l + k) y && same (a + (l + k)) (b + (l + k)))) (prefix-run a b l y k)
       ∙ (λ i. (z && (leb (l + k) y && alike names counts (a + l) (b + l) k)) && (t i && same (p i) (q i)))
       ∙ join z (leb (l + k) y) (leb (l + suc k) y) (alike names counts (a + l) (b + l) k) (same (a + l + k) (b + l + k))

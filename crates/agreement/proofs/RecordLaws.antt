@@ -2,10 +2,10 @@
 use Prim.Native.Nat.{ℕ, zero, suc, _+_, _-_, _≤_, _<_}
 use native.Mathlib.Nat.{le-refl}
 use native.Mathlib.Omega.{arith}
-use mathlib.Core.Bool.{Bool, true, false, not, _&&_, false≢true}
+use mathlib.Core.Bool.{Bool, true, false, not, _&&_, _||_, false≢true}
 use mathlib.Core.List.{List}
-use mathlib.Core.Option.{Option, some, none}
-use mathlib.Core.Path.{_≡_, refl, sym, ap, _∙_}
+use mathlib.Core.Option.{Option, some, none, Option·none-ne-some}
+use mathlib.Core.Path.{_≡_, refl, sym, ap, subst, _∙_}
 use borrow.Author.Tests.{ltb-true, ltb-false, le-ltb}
 use lib.Dec.{ltb}
 use lib.ListN.{length, getD}
@@ -14,6 +14,8 @@ use Rattle.message.specs.Choice.{pick}
 use Rattle.message.specs.Logs.{Log, isPrefix}
 use Rattle.message.specs.Store.{logAt, within, prefixAt}
 use Rattle.message.proofs.TestLaws.{either, or-false}
+use Rattle.message.proofs.LogLaws.{prefix-length}
+use Rattle.message.proofs.ListedLaws.{length-at}
 use Rattle.message.proofs.Inside.{prefix-inside}
 use Rattle.agreement.specs.Limits.{mostSenders, span, placeOf}
 use Rattle.agreement.specs.Sets.{ones, count, member, isYes}
@@ -25,8 +27,9 @@ use Rattle.agreement.specs.declared.Snapshot.{Snapshot}
 use Rattle.agreement.specs.Heard.{proposedLog, onlyLog, readingFrom, gradeNow, gradeWith, mayChoose, priorityOf, orLock, voteAmong}
 use Rattle.agreement.specs.Proposals.{Proposals, fits, ifFits, bestOf, choiceOf}
 use Rattle.agreement.proofs.SetLaws.{weigh-some}
-use Rattle.agreement.proofs.ReadingLaws.{Alike, Beyond}
-use Rattle.agreement.proofs.LongestLaws.{longest-cong, longest-cut}
+use Rattle.agreement.proofs.LimitLaws.{none-passes}
+use Rattle.agreement.proofs.ReadingLaws.{grade-supporter, Alike, Beyond}
+use Rattle.agreement.proofs.LongestLaws.{longest-iff, longest-cong, longest-cut, record-heard}
 use Rattle.agreement.proofs.FilingLaws.{within-room}
 use Rattle.agreement.proofs.ChoiceLaws.{best-cut, best-is}
 use Rattle.agreement.proofs.KeptLaws.{kept-sender, kept-voter, kept-only}
@@ -52,6 +55,35 @@ short-not-overlong lengths h =
     let m = weigh-some mostSenders ones long (ltb-true 0 (count mostSenders long) t) in
     absurd (false≢true (sym (le-ltb mostBlocks (getD lengths (m .sender) 0) (h (m .sender) (m .below))) ∙ m .left)))
     (λ t. t)
+
+-- a log that is given has 64 blocks at the most, whatever the record holds
+graded-short : (names counts : List ℕ) (base : ℕ) (g : Agreement) (among : ℕ) (L : Log) → gradeAmong names counts base g among ≡ some L
+    → length L ≤ mostBlocks
+unfolding gradeAmong overlong
+graded-short names counts base g among L e =
+    either (lacksRoom names counts base || overlong (g .lengths))
+    (λ t. absurd (Option·none-ne-some L (rw t at e)))
+    (λ t.
+    let r : longest mostSenders ones (readingOf names counts base g among) ≡ some L = rw t at e in
+    let R = readingOf names counts base g among in
+    let l = longest-iff mostSenders ones R (record-heard mostSenders names counts base g among) (some L) .0 r in
+    let s = grade-supporter mostSenders ones R L (l .grade) in
+    let i = s .sender in
+    let over : ℕ → Bool = λ (j : ℕ). ltb mostBlocks (getD (g .lengths) j 0) in
+    let none-over = or-false (lacksRoom names counts base) (overlong (g .lengths)) t .1 in
+    let k = ltb-false mostBlocks (getD (g .lengths) i 0) (none-passes over none-over i (s .below)) in
+    let p = prefix-length (s .extends) in
+    let n = length-at names counts (placeOf base i) (getD (g .lengths) i 0) in
+    omega arith)
+
+pub by-short : (names counts : List ℕ) (base : ℕ) (g : Agreement) (x : Snapshot) (L : Log) → gradeBy names counts base g x ≡ some L
+    → length L ≤ mostBlocks
+by-short names counts base g x L e =
+    either (isYes (x .taken))
+    (λ t.
+    graded-short names counts base g (x .senders) L
+    (subst (λ (b : Bool). pick b (gradeAmong names counts base g (x .senders)) none ≡ some L) t e))
+    (λ t. absurd (Option·none-ne-some L (rw t at e)))
 
 module _ (n : ℕ) (names counts : List ℕ) (base : ℕ) (g : Agreement) (w : Within n g) where
   not-both : (i : ℕ) → i < mostSenders → (isVoter g i && isEquivocator g i) ≡ false

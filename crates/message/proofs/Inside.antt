@@ -3,7 +3,7 @@
 use Prim.Native.Nat.{ℕ, _+_, _*_, _^_, _<_, _≤_}
 use native.Mathlib.Omega.{arith}
 use mathlib.Core.List.{List, [], _++_, append-nil}
-use mathlib.Core.Bool.{Bool, true}
+use mathlib.Core.Bool.{Bool, true, false}
 use mathlib.Core.Path.{_≡_, sym, ap, _∙_}
 use borrow.Author.Tests.{le-leb}
 use lib.ListN.{length, drop}
@@ -12,6 +12,7 @@ use Rattle.message.specs.Numbers.{AllBelow, put}
 use Rattle.message.specs.Logs.{Log, isPrefix, sameLog, sharedLength, namesOf, countsOf}
 use Rattle.message.specs.Message.{Content, Meaning, logMessage, proposalMessage, said, means, readOf, logOf, logKind, proposalKind, messageBytes, bytesOf, countIn, priorityIn, logIn, contentIn}
 use Rattle.message.specs.Store.{logAt, within, holdsLog, prefixAt, sharedAt, matchesAt, Stores, storeOf, roomFor, Writes, writeOf}
+use Rattle.message.proofs.TestLaws.{either}
 use Rattle.message.proofs.PartLaws.{put-front, length-put}
 use Rattle.message.proofs.Acceptance.{accepted, form}
 use Rattle.message.proofs.WrittenFields.{sender-front, view-front, priority-front, log-front, length-message, count-message, log-message}
@@ -32,6 +33,11 @@ pub matches-inside : (s names counts : List ℕ) (a x : ℕ) → holdsLog s ≡ 
     → matchesAt s names counts a x ≡ sameLog (logIn s) (logAt names counts a x)
 unfolding matchesAt
 matches-inside s names counts a x h g = rw (h, g)
+
+-- what is no log within the lists matches nothing
+pub matches-outside : (s names counts : List ℕ) (a x : ℕ) → within names counts a x ≡ false → matchesAt s names counts a x ≡ false
+unfolding matchesAt
+matches-outside s names counts a x e = either (holdsLog s) (λ t. rw (t, e)) (λ t. rw t)
 
 -- an accepted message holds its log
 pub holds-accepted : (n : ℕ) (s : List ℕ) (m : Meaning) → readOf n s ≡ means m → holdsLog s ≡ true

@@ -10,6 +10,7 @@ pub mod WrittenFields
 pub mod Acceptance
 pub mod Codec
 pub mod Readings
+pub mod GoodLogs
 pub mod Examples
 -- What the public functions promise, inside their limits:
 pub mod Inside

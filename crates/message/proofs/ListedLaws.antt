@@ -2,15 +2,16 @@
 use Prim.Native.Nat.{ℕ, zero, suc, _+_, _-_, _≤_, _<_}
 use native.Mathlib.Omega.{arith}
 use mathlib.Core.List.{List, [], _∷_}
-use mathlib.Core.Path.{_≡_, sym, ap, _∙_}
-use mathlib.Core.Bool.{true, _&&_, and-eq-true-iff}
-use borrow.Author.Tests.{leb-true, le-leb}
-use lib.Dec.{leb}
+use mathlib.Core.Path.{_≡_, refl, sym, ap, _∙_}
+use mathlib.Core.Bool.{Bool, true, _&&_, and-true, and-assoc, and-eq-true-iff}
+use borrow.Author.Tests.{leb-true, le-leb, ltb-true, ltb-false, lt-ltb, le-ltb}
+use lib.Dec.{leb, ltb}
 use lib.ListN.{length}
 use Rattle.message.specs.Limits.{mostBlocks}
 use Rattle.message.specs.Numbers.{part, put}
-use Rattle.message.specs.Logs.{Log, Prefix, empty, more, inStep, namesOf, countsOf}
+use Rattle.message.specs.Logs.{Log, Prefix, empty, more, sameBlock, isPrefix, inStep, namesOf, countsOf}
 use Rattle.message.specs.Store.{blockAt, logAt, within}
+use Rattle.message.proofs.TestLaws.{either}
 use Rattle.message.proofs.LogLaws.{prefix-length, prefix-same, length-names, length-counts, log-in-step, names-in-step, counts-in-step, length-in-step}
 use Rattle.message.proofs.PartLaws.{length-part, part-put, part-put-below, part-put-above}
 
@@ -54,6 +55,45 @@ prefix-there names counts a y M h =
     let l = prefix-length h in
     let k = length-at names counts a y in
     prefix-same h (prefix-at names counts a (length M) y (omega arith)) (sym (length-at names counts a (length M)))
+
+-- ---- one block more
+
+ltb-suc : (l y : ℕ) → ltb l y ≡ ltb (suc l) (suc y)
+ltb-suc l y =
+    either (ltb l y)
+    (λ t. t ∙ sym (lt-ltb (suc l) (suc y) (omega (arith, ltb-true l y t))))
+    (λ t. t ∙ sym (le-ltb (suc l) (suc y) (omega (arith, ltb-false l y t))))
+
+module _ (names counts : List ℕ) where
+  -- the blocks at places a and b are the same
+  abbrev same : ℕ → ℕ → Bool
+  same a b = sameBlock (blockAt names counts a) (blockAt names counts b)
+
+  longer : (a b l y : ℕ) → isPrefix (logAt names counts a (suc l)) (logAt names counts b y)
+      ≡ (isPrefix (logAt names counts a l) (logAt names counts b y) && (ltb l y && same (a + l) (b + l)))
+  unfolding isPrefix logAt part inStep
+  longer a b zero zero = sym (ap (λ (t : Bool). t && same (a + 0) (b + 0)) (le-ltb 0 0 (omega arith)))
+  longer a b zero (suc y) =
+      let p : a ≡ a + 0 = omega arith in
+      let q : b ≡ b + 0 = omega arith in
+      let t = sym (lt-ltb 0 (suc y) (omega arith)) in
+      and-true (same a b) ∙ (λ i. t i && same (p i) (q i))
+  longer a b (suc l) zero = refl
+  longer a b (suc l) (suc y) =
+      let p : a + 1 + l ≡ a + suc l = omega arith in
+      let q : b + 1 + l ≡ b + suc l = omega arith in
+      let t = ltb-suc l y in
+      let s = isPrefix (logAt names counts (a + 1) l) (logAt names counts (b + 1) y) in
+      ap (λ (u : Bool). same a b && u) (longer (a + 1) (b + 1) l y)
+      ∙ sym (and-assoc (same a b) s (ltb l y && same (a + 1 + l) (b + 1 + l)))
+      ∙ (λ i. (same a b && s) && (t i && same (p i) (q i)))
+
+  -- l + 1 blocks are a prefix of a log where l blocks are, the log has more than l, and the next one is the same
+  pub prefix-one-more : (a b l y : ℕ) → isPrefix (logAt names counts a (l + 1)) (logAt names counts b y)
+      ≡ (isPrefix (logAt names counts a l) (logAt names counts b y) && (ltb l y && same (a + l) (b + l)))
+  prefix-one-more a b l y =
+      let s : l + 1 ≡ suc l = omega arith in
+      ap (λ (k : ℕ). isPrefix (logAt names counts a k) (logAt names counts b y)) s ∙ longer a b l y
 
 -- ---- within the lists, as facts
 

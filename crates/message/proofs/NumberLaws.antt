@@ -10,9 +10,14 @@ use lib.Dec.{leb}
 use lib.ListN.{length, getD, drop, length-append}
 use lib.Seq.{drop-at}
 use Rattle.message.specs.Numbers.{AllBelow, part, numberAt, numberIn, numbersAt, bytesFor, bytesForEach}
+use Rattle.message.proofs.TestLaws.{either}
 use Rattle.message.proofs.PartLaws.{part-append, part-ext, part-at, part-drop, append-below}
 
 -- ---- lengths
+
+pub bytes-four : (x : ℕ) → bytesFor 4 x ≡ x % 256 ∷ x / 256 % 256 ∷ x / 256 / 256 % 256 ∷ x / 256 / 256 / 256 % 256 ∷ []
+unfolding bytesFor
+bytes-four x = refl
 
 pub length-bytes : (w x : ℕ) → length (bytesFor w x) ≡ w
 unfolding bytesFor
@@ -160,6 +165,14 @@ module _ (w : ℕ) (s : List ℕ) (a : ℕ) where
   pub number-inside : a + w ≤ length s → numberIn w s a ≡ numberAt w s a
   unfolding numberIn
   number-inside h = simp le-leb
+
+  pub number-in-below : AllBelow 256 s → numberIn w s a < 256 ^ w
+  unfolding numberIn
+  number-in-below bytes = either (leb (a + w) (length s)) (λ e. rw e (number-below w s a bytes)) (λ e. rw e (pow-positive w))
+    where
+      pow-positive : (w : ℕ) → 0 < 256 ^ w
+      pow-positive zero = omega arith
+      pow-positive (suc w) = rw (pow-suc 256 w) (omega (arith, pow-positive w))
 
   module _ (v : Bool) (e : v ≡ leb (a + w) (length s)) where
     pub number-asks : v ≡ true → a + w ≤ length s

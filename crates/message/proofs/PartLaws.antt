@@ -4,13 +4,21 @@ use native.Mathlib.Omega.{arith}
 use mathlib.Core.Path.{_≡_, refl, sym, ap, _∙_}
 use mathlib.Core.List.{List, [], _∷_, _++_}
 use lib.Dec.{eqb, ltb}
-use lib.ListN.{length, getD, set, drop, length-set, length-append, length-drop, List·getD-append, List·getD-eq-default}
+use lib.ListN.{length, getD, set, drop, replicate, length-set, length-append, length-drop, List·getD-append, List·getD-eq-default}
 use lib.Seq.{getD-set-same, getD-set-other, set-comm, set-out, ext-getD, getD-drop, getD-append-add}
 use borrow.Author.Tests.{ltb-true, ltb-false, eqb-true, eqb-false}
 use Rattle.message.specs.Numbers.{AllBelow, part, put}
 use Rattle.message.proofs.TestLaws.{either}
 
 -- ---- part
+
+pub part-nil : (l : List ℕ) (a : ℕ) → part l a 0 ≡ []
+unfolding part
+part-nil l a = refl
+
+pub part-step : (l : List ℕ) (a k : ℕ) → 0 < k → part l a k ≡ getD l a 0 ∷ part l (a + 1) (k - 1)
+unfolding part
+part-step l a k h = let e : k ≡ suc (k - 1) = omega arith in ap (part l a) e
 
 pub length-part : (l : List ℕ) (a k : ℕ) → length (part l a k) ≡ k
 unfolding part
@@ -60,6 +68,14 @@ part-drop l m a k =
     part-ext l (drop m l) (m + a) a k (λ i h. let e : m + a + i ≡ m + (a + i) = omega arith in ap (λ (j : ℕ). getD l j 0) e ∙ sym (getD-drop m l (a + i) 0))
 
 -- ---- put
+
+pub put-nil : (l : List ℕ) (a : ℕ) → put l a [] ≡ l
+unfolding put
+put-nil l a = refl
+
+pub put-cons : (l : List ℕ) (a x : ℕ) (xs : List ℕ) → put l a (x ∷ xs) ≡ put (set l a x) (a + 1) xs
+unfolding put
+put-cons l a x xs = refl
 
 pub length-put : (l : List ℕ) (a : ℕ) (xs : List ℕ) → length (put l a xs) ≡ length l
 unfolding put
@@ -159,6 +175,11 @@ part-below B l a k h i =
     let e = List·getD-eq-default (part l a k) 0 {n = i} (omega arith) in
     let b = h 0 in
     omega arith)
+
+pub zeros-below : (B k : ℕ) → 0 < B → AllBelow B (replicate k 0)
+zeros-below B zero h i = h
+zeros-below B (suc k) h zero = h
+zeros-below B (suc k) h (suc i) = zeros-below B k h i
 
 pub one-below : (B x : ℕ) → x < B → AllBelow B (x ∷ [])
 one-below B x h zero = h
