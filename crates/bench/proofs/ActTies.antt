@@ -16,7 +16,7 @@ use Rattle.agreement.specs.Record.{SnapshotNumber, one, two, snapshotAt, withSn
 use Rattle.agreement.specs.Kept.{keptLog, singleOf, snapshotIn}
 use Rattle.agreement.specs.Heard.{heardLogs}
 use Rattle.agreement.specs.Proposals.{Proposals}
-use Rattle.agreement.proofs.KeptLaws.{kept-voter}
+use Rattle.agreement.proofs.KeptLaws.{kept-voter, kept-snapshot}
 use Rattle.agreement.proofs.ElsewhereLaws.{untouched}
 use Rattle.bench.specs.Layout.{logsPlace, Lent}
 use Rattle.bench.specs.Calendar.{lastView, inputBeat, snapshotBeat, closeBeat}
@@ -94,7 +94,6 @@ module _ (p : History) (made : Option Meaning) (decided : Option Log) (beat : �
           }
 
       pub snapshot-filled : (k : SnapshotNumber) → beat ≡ snapshotBeat k v → Filled (withAgreement b v (withSnapshot k (agreementOf b v))) l q
-      unfolding keptLog
       snapshot-filled k e =
           let old = h .views v low soon in
           let taken : some (member (agreementOf b v .marks .voters)) ≡ snapshotTook q k v =
@@ -108,8 +107,7 @@ module _ (p : History) (made : Option Meaning) (decided : Option Log) (beat : �
           snapped-view two = agreement-view b v
 
           same-logs : (k : SnapshotNumber) (i : ℕ) → keptLog (l .names) (l .counts) (logsPlace v) (withSnapshot k (agreementOf b v)) i ≡ heardLogs (q .heard) v i
-          same-logs one i = h .views v low soon .logs i
-          same-logs two i = h .views v low soon .logs i
+          same-logs k i = kept-snapshot k (l .names) (l .counts) (logsPlace v) (agreementOf b v) i ∙ h .views v low soon .logs i
 
           each : (k : SnapshotNumber) → beat ≡ snapshotBeat k v → some (member (agreementOf b v .marks .voters)) ≡ snapshotTook q k v
               → ((j : SnapshotNumber) → (beat ≡ snapshotBeat j v → ⊥) → snapshotIn (snapshotAt j (agreementOf b v .marks)) ≡ snapshotTook q j v)

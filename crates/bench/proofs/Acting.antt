@@ -11,6 +11,7 @@ use lib.ListN.{length}
 use Rattle.message.specs.Logs.{Block, Log}
 use Rattle.message.specs.Message.{Meaning, proposalMessage, bytesOf}
 use Rattle.message.specs.Store.{logAt}
+use Rattle.message.proofs.GoodLogs.{GoodLog}
 use Rattle.message.proofs.TestLaws.{either}
 use Rattle.message.proofs.Codec.{read-written}
 use Rattle.agreement.specs.Record.{SnapshotNumber, one, two, withSnapshot}
@@ -19,7 +20,7 @@ use Rattle.bench.specs.Terms.{Seat}
 use Rattle.bench.specs.Layout.{decidedPlace, mostBytes}
 use Rattle.bench.specs.Calendar.{lastView, viewBeat, inputBeat, snapshotBeat, snapshotTaken, closeBeat, viewOf, placeIn, Act, actAt}
 use Rattle.bench.specs.Calls.{act, acted, openTo, Typed, State}
-use Rattle.bench.specs.Acts.{Seen, mayPropose, isView, inViews, propose, vote, makes, outAfter, decides}
+use Rattle.bench.specs.Acts.{Seen, mayPropose, isView, propose, vote, makes, outAfter, decides}
 use Rattle.bench.specs.History.{History, beatNow, refusal, seenAt, madeBy, decidedBy, fileMade, closed, accepted, answer, acceptedAnswer, standIn}
 use Rattle.bench.specs.Record.{agreementOf, proposalsOf, beatOf, idle, Bench}
 use Rattle.bench.specs.ByRecord.{usedOf, seenOf, snappedBy, snapped, changed, withMade, actedOf, over, actOf}
@@ -27,7 +28,8 @@ use Rattle.bench.proofs.Fine.{Fine}
 use Rattle.bench.proofs.FineAgreements.{snapshot-fine}
 use Rattle.bench.proofs.FineBench.{with-agreement-fine}
 use Rattle.bench.proofs.Slots.{agreement-fine, agreement-rest, SameBesides}
-use Rattle.bench.proofs.GoodHistory.{GoodLog, decided-good, made-good}
+use Rattle.bench.proofs.HistoryActs.{views-some}
+use Rattle.bench.proofs.GoodHistory.{decided-good, made-good}
 use Rattle.bench.proofs.Ties.{Filled, lastOf, Tie}
 use Rattle.bench.proofs.FilingTies.{file-tie}
 use Rattle.bench.proofs.CallTies.{Agrees, both-refuse, both-accept, in-limits, long-lists, beat-same, started, carries-read}
@@ -36,13 +38,6 @@ use Rattle.bench.proofs.Settling.{Settled, decision-settled}
 use Rattle.bench.proofs.ActTies.{NoneOf, quiet-filled, snapshot-filled}
 
 -- ---- what is made is open at the beat at which it is made
-
-views-some : (v : ℕ) (o : Option Meaning) (m : Meaning) → inViews v o ≡ some m → (v ≤ lastView) × (o ≡ some m)
-views-some v o m e = go (isView v) refl
-  where
-    go : (t : Bool) → isView v ≡ t → (v ≤ lastView) × (o ≡ some m)
-    go true q = (leb-true v lastView q, rw q at e)
-    go false q = absurd (Option·none-ne-some _ (rw q at e))
 
 proposal-open : (own v : ℕ) (block : Block) (priority : ℕ) (C : Option Log) (m : Meaning) (beat : ℕ) → propose own v block priority C ≡ some m → beat ≡ viewBeat v → openTo m beat ≡ true
 unfolding propose

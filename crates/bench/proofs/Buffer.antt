@@ -3,34 +3,25 @@
 -- Receive have no buffer. Assumes nothing.
 use Prim.Native.Nat.{ℕ, zero, suc, _+_, _≤_, _<_}
 use native.Mathlib.Omega.{arith}
-use mathlib.Core.Bool.{Bool, false, not, _||_, and-eq-true-iff}
+use mathlib.Core.Bool.{false, not, and-eq-true-iff}
 use mathlib.Core.List.{List, [], _∷_, _++_}
 use mathlib.Core.Logic.{inl, inr}
-use mathlib.Core.Option.{Option, some, none, Option·none-ne-some, Option·some-injective}
-use mathlib.Core.Path.{_≡_, refl, sym, ap, subst, _∙_}
+use mathlib.Core.Option.{Option, some, none, Option·some-injective}
+use mathlib.Core.Path.{_≡_, refl, ap, subst, _∙_}
 use borrow.Author.Tests.{ltb-true, ltb-false}
 use lib.Dec.{eqb, ltb}
 use lib.ListN.{length, getD, drop, length-append}
 use Rattle.message.specs.Limits.{mostBlocks, lastView}
-use Rattle.message.specs.Choice.{pick}
 use Rattle.message.specs.Logs.{Block, Log}
 use Rattle.message.specs.Message.{Meaning, logOf, bytesOf, Reading, refused as unread, means, readOf}
 use Rattle.message.proofs.TestLaws.{either, or-false}
-use Rattle.message.proofs.LogLaws.{prefix-length}
-use Rattle.message.proofs.ListedLaws.{length-at}
 use Rattle.message.proofs.PartLaws.{put-front}
 use Rattle.message.proofs.WrittenFields.{length-message}
-use Rattle.agreement.specs.Limits.{mostSenders, placeOf}
-use Rattle.agreement.specs.Sets.{count, ones, member, isYes}
-use Rattle.agreement.specs.Reading.{longest}
-use Rattle.agreement.specs.Record.{filedLog, lacksRoom, overlong, readingOf, Agreement, two, snapshotAt}
-use Rattle.agreement.specs.Grades.{gradeAmong, gradeBy}
-use Rattle.agreement.specs.Kept.{nothing, only, differing, Proposed, keptProposal}
-use Rattle.agreement.specs.declared.Snapshot.{Snapshot}
-use Rattle.agreement.specs.Proposals.{Proposals}
-use Rattle.agreement.proofs.SetLaws.{weigh-none}
-use Rattle.agreement.proofs.ReadingLaws.{grade-supporter}
-use Rattle.agreement.proofs.LongestLaws.{longest-iff, record-heard}
+use Rattle.agreement.specs.Limits.{mostSenders}
+use Rattle.agreement.specs.Record.{two, snapshotAt}
+use Rattle.agreement.specs.Kept.{keptProposal}
+use Rattle.agreement.proofs.KeptLaws.{kept-length}
+use Rattle.agreement.proofs.RecordLaws.{by-short}
 use Rattle.agreement.proofs.GradeSources.{vote-from}
 use Rattle.bench.specs.Layout.{logsPlace, proposalsPlace, mostBytes, shortLists}
 use Rattle.bench.specs.Calendar.{lastBeat, viewOf, placeIn, Act, proposing, voting, deciding, snapping, actAt}
@@ -52,54 +43,10 @@ madeIn (acted m) = m
 
 -- ---- logs that are read have 64 blocks at the most
 
-graded-short : (names counts : List ℕ) (base : ℕ) (g : Agreement) (among : ℕ) (L : Log) → gradeAmong names counts base g among ≡ some L
-    → length L ≤ mostBlocks
-unfolding gradeAmong overlong
-graded-short names counts base g among L e =
-    either (lacksRoom names counts base || overlong (g .lengths))
-    (λ t. absurd (Option·none-ne-some L (rw t at e)))
-    (λ t.
-    let r : longest mostSenders ones (readingOf names counts base g among) ≡ some L = rw t at e in
-    let l = longest-iff mostSenders ones (readingOf names counts base g among) (record-heard mostSenders names counts base g among) (some L) .0 r in
-    let s = grade-supporter mostSenders ones (readingOf names counts base g among) L (l .grade) in
-    let i = s .sender in
-    let over : ℕ → Bool = λ (j : ℕ). ltb mostBlocks (getD (g .lengths) j 0) in
-    let few = ltb-false 0 (count mostSenders over) (or-false (lacksRoom names counts base) (overlong (g .lengths)) t .1) in
-    let k = ltb-false mostBlocks (getD (g .lengths) i 0) (weigh-none mostSenders over i (omega arith) (s .below)) in
-    let p = prefix-length (s .extends) in
-    let n = length-at names counts (placeOf base i) (getD (g .lengths) i 0) in
-    omega arith)
-
-by-short : (names counts : List ℕ) (base : ℕ) (g : Agreement) (x : Snapshot) (L : Log) → gradeBy names counts base g x ≡ some L → length L ≤ mostBlocks
-by-short names counts base g x L e =
-    either (isYes (x .taken))
-    (λ t. graded-short names counts base g (x .senders) L (subst (λ (b : Bool). pick b (gradeAmong names counts base g (x .senders)) none ≡ some L) t e))
-    (λ t. absurd (Option·none-ne-some L (rw t at e)))
-
 lock-short : (s : State) (v : ℕ) (L : Log) → usedOf s v voting ≡ some L → length L ≤ mostBlocks
 unfolding usedOf
 lock-short s zero L e = subst (λ (M : Log). length M ≤ mostBlocks) (Option·some-injective [] L e) (omega arith)
 lock-short s (suc u) L e = by-short (s .lent .names) (s .lent .counts) (logsPlace u) (agreementOf (s .bench) u) (snapshotAt two (agreementOf (s .bench) u .marks)) L e
-
--- what is kept is one proposal, or not
-same-only : (a b : Proposed) → only a ≡ only b → a ≡ b
-same-only a b e = cc
-
-differing-apart : {A : Type 0} (a : Proposed) → differing ≡ only a → A
-differing-apart a e = let z : _≡_ {A = ℕ} 0 1 = cc in absurd (omega arith)
-
-nothing-apart : {A : Type 0} (a : Proposed) → nothing ≡ only a → A
-nothing-apart a e = let z : _≡_ {A = ℕ} 0 1 = cc in absurd (omega arith)
-
-kept-length : (names counts : List ℕ) (base : ℕ) (g : Proposals) (i : ℕ) (a : Proposed) → keptProposal names counts base g i ≡ only a
-    → length (a .log) ≡ getD (g .lengths) i 0
-unfolding keptProposal
-kept-length names counts base g i a e =
-    let own : Proposed = record { log = filedLog names counts base (g .lengths) i; priority = getD (g .priorities) i 0 } in
-    either (member (g .marks .aside) i) (λ t. differing-apart a (rw t at e)) (λ t.
-    either (member (g .marks .filed) i)
-    (λ f. ap (λ (b : Proposed). length (b .log)) (sym (same-only own a (rw (t, f) at e))) ∙ length-at names counts (placeOf base i) (getD (g .lengths) i 0))
-    (λ f. nothing-apart a (rw (t, f) at e)))
 
 -- the proposals of view v, in a record within its limits
 module _ (b : Bench) (e : beyondProposals (b .n) (b .proposals) ≡ false) where

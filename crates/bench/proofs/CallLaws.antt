@@ -3,20 +3,22 @@
 use Prim.Native.Nat.{ℕ, _≤_}
 use mathlib.Core.Path.{_≡_, refl, sym, ap, subst, _∙_}
 use mathlib.Core.Logic.{_⊎_, inl, inr}
-use mathlib.Core.List.{List, _∷_, List·Memᴰ as Mem, List·Memᴰ·tail}
+use mathlib.Core.List.{List, _∷_, List·Memᴰ as Mem, List·Memᴰ·head, List·Memᴰ·tail, List·Memᴰ·cases-cons}
 use mathlib.Core.Option.{Option, some, none, Option·some-ne-none}
 use mathlib.Core.Bool.{Bool, true, false, not, false≢true}
 use lib.Dec.{ltb}
 use lib.ListN.{length}
 use borrow.Author.Tests.{ltb-false}
 use Rattle.message.specs.Choice.{pick}
-use Rattle.message.specs.Logs.{Block}
+use Rattle.message.specs.Logs.{Block, sameLog}
 use Rattle.message.specs.Message.{Content, Meaning, logMessage, proposalMessage, Reading, refused as unread, means, readOf}
 use Rattle.agreement.specs.Filing.{Word}
+use Rattle.agreement.specs.Kept.{wordOn}
+use Rattle.agreement.specs.Heard.{heardLogs}
 use Rattle.bench.specs.Terms.{Seat}
 use Rattle.bench.specs.Layout.{mostBytes}
 use Rattle.bench.specs.Calendar.{lastBeat}
-use Rattle.bench.specs.Calls.{Call, begin, receive, act, took, Answer, openTo}
+use Rattle.bench.specs.Calls.{Call, begin, receive, act, done, took, Answer, openTo}
 use Rattle.bench.specs.History.{ActRecord, History, beatNow, notAbove, readingRefusal, refusal, wordFor, file, fileMade, closed, madeBy, decidedBy, accepted, wordRead, acceptedAnswer, step, answer}
 
 -- ---- a call is refused and changes nothing, or is accepted
@@ -102,6 +104,15 @@ taken-reply S p bytes m ok r =
     let a : answer S p (receive bytes) ≡ acceptedAnswer S p (receive bytes) = rw ok in
     ap (λ (x : Answer). x .reply) a ∙ ap (wordRead p) r
 
+pub begun-reply : (S : Seat) (p : History) (b : ℕ) → refusal S p (begin b) ≡ none → answer S p (begin b) .reply ≡ done
+unfolding answer acceptedAnswer
+begun-reply S p b ok = let a : answer S p (begin b) ≡ acceptedAnswer S p (begin b) = rw ok in ap (λ (x : Answer). x .reply) a
+
+-- the word on a LOG is the word on its sender's logs of the view
+pub word-log : (p : History) (m : Content) → wordFor p (logMessage m) ≡ wordOn sameLog (heardLogs (p .heard) (m .view) (m .sender)) (m .log)
+unfolding wordFor
+word-log p m = refl
+
 pub took-injective : (v w : Word) → took v ≡ took w → v ≡ w
 took-injective v w e = cc
 
@@ -144,7 +155,39 @@ pub made-heard : (p : History) (o : Option Meaning) (h : Content) → Mem h (p .
 made-heard p none h i = i
 made-heard p (some m) h i = file-heard p m h i
 
+-- ---- what filing adds to the LOGs heard
+
+pub log-heard : (p : History) (m : Content) → file p (logMessage m) .heard ≡ m ∷ p .heard
+unfolding file
+log-heard p m = refl
+
+pub filed-heard : (p : History) (m : Content) → Mem m (file p (logMessage m) .heard)
+filed-heard p m = subst (Mem m) (sym (log-heard p m)) (List·Memᴰ·head refl)
+
+pub proposal-heard : (p : History) (m : Content) (priority : ℕ) → file p (proposalMessage m priority) .heard ≡ p .heard
+unfolding file
+proposal-heard p m priority = refl
+
+-- a LOG heard after filing is the one filed, or was heard before
+pub filed-cases : (p : History) (m : Meaning) (h : Content) → Mem h (file p m .heard) → (m ≡ logMessage h) ⊎ Mem h (p .heard)
+filed-cases p (logMessage k) h i =
+    elim (List·Memᴰ·cases-cons (subst (Mem h) (log-heard p k) i)) [ inl e ↦ inl (ap logMessage (sym e)) | inr j ↦ inr j ]
+filed-cases p (proposalMessage k r) h i = inr (subst (Mem h) (proposal-heard p k r) i)
+
+pub made-cases : (p : History) (o : Option Meaning) (h : Content) → Mem h (fileMade p o .heard)
+    → (o ≡ some (logMessage h)) ⊎ Mem h (p .heard)
+made-cases p none h i = inr i
+made-cases p (some m) h i = elim (filed-cases p m h i) [ inl e ↦ inl (ap {B = Option Meaning} some e) | inr j ↦ inr j ]
+
 -- ---- an accepted call
+
+-- the history after a Begin
+abbrev pub afterBegin : History → ℕ → History
+afterBegin p b = record { last = some b; gathering = true; heard = p .heard; proposals = p .proposals; actions = p .actions }
+
+pub accepted-begin : (S : Seat) (p : History) (b : ℕ) → accepted S p (begin b) ≡ afterBegin p b
+unfolding accepted
+accepted-begin S p b = refl
 
 pub accepted-receive : (S : Seat) (p : History) (bytes : List ℕ) (m : Meaning) → readOf (S .terms .n) bytes ≡ means m → accepted S p (receive bytes) ≡ file p m
 unfolding accepted

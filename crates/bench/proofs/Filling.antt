@@ -20,7 +20,8 @@ use Rattle.bench.specs.Calendar.{lastView, viewBeat, inputBeat, snapshot
 use Rattle.bench.specs.History.{History, heardAt, snapshotOf}
 use Rattle.bench.specs.Record.{agreementOf, withAgreement, proposalsOf, withProposals, Bench}
 use Rattle.bench.proofs.Fine.{FineAgreement, FineProposals, Fine}
-use Rattle.bench.proofs.Slots.{empty-kept, empty-proposal-kept, agreement-fine, proposals-fine, changed-own, changed-across, changed-beside, parity-apart, proposals-own, proposals-beside}
+use Rattle.agreement.proofs.EmptyLaws.{empty-kept, empty-proposal-kept}
+use Rattle.bench.proofs.Slots.{agreement-fine, proposals-fine, changed-own, changed-across, changed-beside, parity-apart, proposals-own, proposals-beside}
 use Rattle.bench.proofs.Ties.{Holds, HoldsProposals, Since, Filled, no-act}
 
 -- ---- no two parts of the lists overlap

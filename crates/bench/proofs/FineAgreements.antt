@@ -10,15 +10,14 @@ use lib.Dec.{eqb}
 use lib.ListN.{getD, set, replicate, length-set, length-replicate}
 use lib.Seq.{getD-set-same, getD-set-other}
 use Rattle.message.specs.Limits.{mostBlocks, lastView}
-use Rattle.message.specs.Logs.{sameLog}
-use Rattle.message.specs.Message.{countIn, logIn}
-use Rattle.message.proofs.TestLaws.{either, or-false}
+use Rattle.message.specs.Message.{countIn}
+use Rattle.message.proofs.TestLaws.{either}
 use Rattle.agreement.specs.Limits.{mostSenders}
 use Rattle.agreement.specs.Sets.{member, adding, removing}
-use Rattle.agreement.specs.Record.{emptyAgreement, isVoter, isEquivocator, filedLog, withFirst, withSecond, SnapshotNumber, one, two, withSnapshot, Agreement}
-use Rattle.agreement.specs.Filing.{Fit, unfit, fileOf}
-use Rattle.agreement.proofs.FilingLaws.{fit, few-blocks}
-use Rattle.agreement.proofs.KeptLaws.{cases}
+use Rattle.agreement.specs.Record.{emptyAgreement, isVoter, isEquivocator, withFirst, withSecond, SnapshotNumber, one, two, withSnapshot, Agreement}
+use Rattle.agreement.specs.Filing.{fileOf}
+use Rattle.agreement.proofs.FilingLaws.{few-blocks}
+use Rattle.agreement.proofs.KeptLaws.{file-cases}
 use Rattle.agreement.proofs.MaskLaws.{member-zero, adding-lt, adding-same, adding-other, removing-lt, removing-same, removing-other}
 use Rattle.bench.proofs.Fine.{FineSender, FineAgreement, nothing-fine}
 
@@ -189,14 +188,7 @@ module _ (n : ℕ) (g : Agreement) (f : FineAgreement n g) where
 
   -- filing a LOG from sender i, whatever the bytes: what holds no log is not filed
   pub file-fine : (names counts : List ℕ) (base : ℕ) (s : List ℕ) (i : ℕ) → i < n → FineAgreement n (fileOf g names counts base s i .agreement)
-  unfolding fileOf
   file-fine names counts base s i here =
-      cases (FineAgreement n (fileOf g names counts base s i .agreement))
-      (unfit names counts base s i || isEquivocator g i) (isVoter g i) (sameLog (logIn s) (filedLog names counts base (g .lengths) i))
-      (λ q. rw q f)
-      (λ q v e. rw (q, v, e) f)
-      (λ q v e. rw (q, v, e) (second-fine i (fits q .few) here))
-      (λ q v. rw (q, v) (first-fine i (fits q .few) here (countIn s) (few-blocks names counts base s i (fits q)) (or-false (unfit names counts base s i) _ q .1)))
-    where
-      fits : (unfit names counts base s i || isEquivocator g i) ≡ false → Fit names counts base s i
-      fits q = fit names counts base s i (or-false (unfit names counts base s i) _ q .0)
+      file-cases g names counts base s i (FineAgreement n) f
+      (λ q. second-fine i (q .few) here)
+      (λ q e. first-fine i (q .few) here (countIn s) (few-blocks names counts base s i q) e)

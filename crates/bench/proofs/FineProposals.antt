@@ -2,23 +2,17 @@
 -- (`sized`). Assumes nothing.
 use Prim.Native.Nat.{ℕ, _≤_, _<_}
 use native.Mathlib.Omega.{arith}
-use mathlib.Core.Bool.{false, _&&_, _||_}
 use mathlib.Core.List.{List}
 use mathlib.Core.Path.{_≡_, _∙_}
-use lib.Dec.{eqb}
 use lib.ListN.{getD, set, length-set, length-replicate}
 use lib.Seq.{getD-set-same, getD-set-other}
 use Rattle.message.specs.Limits.{mostBlocks, lastView}
-use Rattle.message.specs.Logs.{sameLog}
-use Rattle.message.specs.Message.{countIn, logIn}
-use Rattle.message.proofs.TestLaws.{or-false}
+use Rattle.message.specs.Message.{countIn}
 use Rattle.agreement.specs.Limits.{mostSenders}
 use Rattle.agreement.specs.Sets.{member, adding}
-use Rattle.agreement.specs.Record.{filedLog}
-use Rattle.agreement.specs.Filing.{Fit, unfit}
 use Rattle.agreement.specs.Proposals.{emptyProposals, withProposal, withAside, fileProposalOf, Proposals}
-use Rattle.agreement.proofs.FilingLaws.{fit, few-blocks}
-use Rattle.agreement.proofs.KeptLaws.{cases}
+use Rattle.agreement.proofs.FilingLaws.{few-blocks}
+use Rattle.agreement.proofs.KeptLaws.{proposal-cases}
 use Rattle.bench.proofs.Fine.{FineProposer, FineProposals, unfiled-fine}
 use Rattle.agreement.proofs.MaskLaws.{member-zero, adding-lt, adding-same, adding-other}
 use Rattle.bench.proofs.FineAgreements.{getD-all, nobody, at-place}
@@ -91,15 +85,7 @@ module _ (n : ℕ) (g : Proposals) (f : FineProposals n g) where
   -- filing a PROPOSAL from sender i, whatever the bytes
   pub file-proposal-fine : (names counts : List ℕ) (base : ℕ) (s : List ℕ) (i priority : ℕ) → i < n
       → FineProposals n (fileProposalOf g names counts base s i priority .proposals)
-  unfolding fileProposalOf
   file-proposal-fine names counts base s i priority here =
-      cases (FineProposals n (fileProposalOf g names counts base s i priority .proposals))
-      (unfit names counts base s i || member (g .marks .aside) i) (member (g .marks .filed) i)
-      (sameLog (logIn s) (filedLog names counts base (g .lengths) i) && eqb priority (getD (g .priorities) i 0))
-      (λ q. rw q f)
-      (λ q v e. rw (q, v, e) f)
-      (λ q v e. rw (q, v, e) (aside-fine i (fits q .few) here))
-      (λ q v. rw (q, v) (proposal-fine i (fits q .few) here (countIn s) priority (few-blocks names counts base s i (fits q))))
-    where
-      fits : (unfit names counts base s i || member (g .marks .aside) i) ≡ false → Fit names counts base s i
-      fits q = fit names counts base s i (or-false (unfit names counts base s i) _ q .0)
+      proposal-cases g names counts base s i priority (FineProposals n) f
+      (λ q. aside-fine i (q .few) here)
+      (λ q. proposal-fine i (q .few) here (countIn s) priority (few-blocks names counts base s i q))

@@ -1,23 +1,19 @@
 -- Whatever a bench takes, makes or decides lies within the limits of the message. Assumes nothing.
 use Prim.Native.Nat.{ℕ, zero, suc, _^_, _≤_, _<_}
-use native.Mathlib.Omega.{arith}
-use mathlib.Core.Bool.{Bool, false, not, _||_, or-assoc, and-eq-true-iff}
-use mathlib.Core.List.{List, [], _∷_, _++_, List·Memᴰ, List·Memᴰ·cases-cons, List·Memᴰ·not-nil}
-use mathlib.Core.Logic.{inl, inr, _≢_}
+use mathlib.Core.Bool.{not, and-eq-true-iff}
+use mathlib.Core.List.{List, [], _∷_, List·Memᴰ, List·Memᴰ·cases-cons, List·Memᴰ·not-nil}
+use mathlib.Core.Logic.{inl, inr}
 use mathlib.Core.Option.{Option, some, none, Option·none-ne-some, Option·some-injective}
-use mathlib.Core.Path.{_≡_, refl, sym, ap, subst, _∙_}
-use borrow.Author.Tests.{ltb-true, leb-true, eqb-false, ne-eqb, not-true}
+use mathlib.Core.Path.{_≡_, refl, sym, subst}
+use borrow.Author.Tests.{ltb-true, leb-true, eqb-false, not-true}
 use lib.Dec.{eqb, ltb}
-use lib.ListN.{length, length-append}
+use lib.ListN.{length}
 use Rattle.message.specs.Limits.{mostBlocks, lastView}
-use Rattle.message.specs.Choice.{anyOf}
-use Rattle.message.specs.Numbers.{AllBelow}
-use Rattle.message.specs.Logs.{Block, Log, Prefix, namesOf, countsOf}
-use Rattle.message.specs.Message.{Content, Meaning, logMessage, proposalMessage, anyZero, Reading, refused, means, readOf, Writable, WritableMeaning}
-use Rattle.message.proofs.TestLaws.{either, or-false}
-use Rattle.message.proofs.LogLaws.{prefix-iff, names-append, counts-append}
-use Rattle.message.proofs.PartLaws.{one-below, append-below}
+use Rattle.message.specs.Logs.{Block, Log}
+use Rattle.message.specs.Message.{Content, Meaning, logMessage, proposalMessage, Reading, refused, means, readOf, Writable, WritableMeaning}
+use Rattle.message.proofs.TestLaws.{either}
 use Rattle.message.proofs.Codec.{read-writable}
+use Rattle.message.proofs.GoodLogs.{GoodLog, writable-log, log-writable, empty-good, prefix-good, append-good}
 use Rattle.agreement.specs.Heard.{heardLogs, ProposalHeard, heardProposals, voteAmong}
 use Rattle.agreement.proofs.GradeSources.{GradeSource, gradeNow-source, gradeWith-source, heard-source, vote-from, proposed-source}
 use Rattle.bench.specs.Terms.{Seat, weightOf}
@@ -31,70 +27,6 @@ pub record GoodHistory (S : Seat) (p : History) : Type 0 where
   pub heard : (m : Content) → List·Memᴰ m (p .heard) → Writable (S .terms .n) m
   pub proposals : (o : ProposalHeard) → List·Memᴰ o (p .proposals) → Writable (S .terms .n) (o .content)
   pub priorities : (o : ProposalHeard) → List·Memᴰ o (p .proposals) → o .priority < 2 ^ 64
-
--- ---- logs within the limits
-
-pub record GoodLog (L : Log) : Type 0 where
-  pub short : length L ≤ mostBlocks
-  pub named : anyZero (namesOf L) ≡ false
-  pub names : AllBelow (2 ^ 64) (namesOf L)
-  pub counts : AllBelow (2 ^ 16) (countsOf L)
-
-pub writable-log : {n : ℕ} {m : Content} → Writable n m → GoodLog (m .log)
-writable-log w = record { short = w .short; named = w .named; names = w .names; counts = w .counts }
-
-pub log-writable : {n sender view : ℕ} {L : Log} → sender < n → view ≤ lastView → GoodLog L
-    → Writable n (record { sender = sender; view = view; log = L })
-log-writable s v g = record { sender = s; view = v; short = g .short; named = g .named; names = g .names; counts = g .counts }
-
-pub empty-good : GoodLog []
-unfolding anyOf namesOf countsOf
-empty-good = record { short = omega arith; named = refl; names = λ i. omega arith; counts = λ i. omega arith }
-
-any-append : (p : ℕ → Bool) (xs ys : List ℕ) → anyOf p (xs ++ ys) ≡ (anyOf p xs || anyOf p ys)
-unfolding anyOf
-any-append p [] ys = refl
-any-append p (x ∷ xs) ys = ap (λ (t : Bool). p x || t) (any-append p xs ys) ∙ sym (or-assoc (p x) (anyOf p xs) (anyOf p ys))
-
-below-front : (B : ℕ) (xs ys : List ℕ) → 0 < B → AllBelow B (xs ++ ys) → AllBelow B xs
-below-front B [] ys z h i = z
-below-front B (x ∷ xs) ys z h zero = h 0
-below-front B (x ∷ xs) ys z h (suc i) = below-front B xs ys z (λ j. h (suc j)) i
-
-front-good : (P t : Log) → GoodLog (P ++ t) → GoodLog P
-front-good P t g =
-    let l = length-append P t in
-    let s = g .short in
-    let z = sym (any-append (λ name. eqb name 0) (namesOf P) (namesOf t)) ∙ ap anyZero (sym (names-append P t)) ∙ g .named in
-    record {
-      short = omega arith;
-      named = or-false (anyZero (namesOf P)) (anyZero (namesOf t)) z .0;
-      names = below-front (2 ^ 64) (namesOf P) (namesOf t) (omega arith) (subst (AllBelow (2 ^ 64)) (names-append P t) (g .names));
-      counts = below-front (2 ^ 16) (countsOf P) (countsOf t) (omega arith) (subst (AllBelow (2 ^ 16)) (counts-append P t) (g .counts));
-    }
-
--- with a log, its prefixes
-pub prefix-good : {P Q : Log} → Prefix P Q → GoodLog Q → GoodLog P
-prefix-good {P} {Q} h g = let t = prefix-iff P Q .0 h in front-good P (t .0) (subst GoodLog (sym (t .1)) g)
-
--- and one block more, where there is room
-pub append-good : (L : Log) (b : Block) → length L < mostBlocks → b .name ≢ 0 → b .name < 2 ^ 64 → b .count < 2 ^ 16
-    → GoodLog L → GoodLog (L ++ (b ∷ []))
-unfolding anyOf namesOf countsOf
-append-good L b s z S c g =
-    let l = length-append L (b ∷ []) in
-    record {
-      short = omega arith;
-      named =
-          ap anyZero (names-append L (b ∷ [])) ∙ any-append (λ name. eqb name 0) (namesOf L) (b .name ∷ [])
-          ∙ rw (g .named, ne-eqb (b .name) 0 z) refl;
-      names =
-          subst (AllBelow (2 ^ 64)) (sym (names-append L (b ∷ [])))
-          (append-below (2 ^ 64) (namesOf L) (b .name ∷ []) (g .names) (one-below (2 ^ 64) (b .name) S));
-      counts =
-          subst (AllBelow (2 ^ 16)) (sym (counts-append L (b ∷ [])))
-          (append-below (2 ^ 16) (countsOf L) (b .count ∷ []) (g .counts) (one-below (2 ^ 16) (b .count) c));
-    }
 
 -- ---- what an act sees
 

@@ -1,8 +1,10 @@
--- Laws of the definitions in specs/, and the theorems. The layer above cites these.
+-- Laws of the definitions in specs/, and the theorems. The layers above cite these, and not the definitions' text.
 -- What a volume weighs:
 pub mod TermsLaws
--- One call of the history; what it takes, makes and decides keeps to the message's limits:
+-- One call of the history, an act, and a list of calls; what they take, make and decide keeps to the message's limits:
 pub mod CallLaws
+pub mod HistoryActs
+pub mod HistoryLaws
 pub mod GoodHistory
 -- Records within their limits, and which agreement is whose:
 pub mod Fine

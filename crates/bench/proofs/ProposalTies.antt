@@ -15,7 +15,7 @@ use Rattle.agreement.specs.Filing.{Fit}
 use Rattle.agreement.specs.Proposals.{ProposalFiling, fileProposalOf, Proposals}
 use Rattle.agreement.specs.Kept.{Proposed, sameProposal, wordOn, keep, keptProposal}
 use Rattle.agreement.specs.Heard.{ProposalHeard, heardProposals}
-use Rattle.agreement.proofs.KeptLaws.{proposal-word, proposal-kept, proposal-apart}
+use Rattle.agreement.proofs.KeptLaws.{proposal-word, proposal-kept, proposal-apart, proposal-view}
 use Rattle.agreement.proofs.ElsewhereLaws.{Elsewhere, proposal-elsewhere}
 use Rattle.agreement.proofs.KeptOfLaws.{proposals-same, proposals-other}
 use Rattle.bench.specs.Terms.{Seat}
@@ -28,7 +28,7 @@ use Rattle.bench.specs.ByRecord.{decidedLog}
 use Rattle.bench.proofs.Fine.{FineProposals}
 use Rattle.bench.proofs.FineProposals.{file-proposal-fine}
 use Rattle.bench.proofs.FineBench.{with-proposals-fine}
-use Rattle.bench.proofs.Slots.{agreement-fine, proposals-view, proposals-fine, file-proposal-view}
+use Rattle.bench.proofs.Slots.{agreement-fine, proposals-view, proposals-fine}
 use Rattle.bench.proofs.GoodHistory.{file-good}
 use Rattle.bench.proofs.Ties.{HoldsProposals, Filled, Tie}
 use Rattle.bench.proofs.LogTies.{Carries, roomy-elsewhere}
@@ -114,7 +114,7 @@ module _ (S : Seat) (s : State) (p : History) (t : Tie S s p) (bytes : List ℕ)
         (holds-elsewhere lists-elsewhere (agreementOf bench u) p u (t .fine .few) (agreement-fine bench u i (t .fine)) (inl (omega arith)) (t .filled .views u i o));
     proposals = λ u i o.
         proposals-views lists then (t .filled) (m .view) late soon (after .proposals)
-        (file-proposal-view filed (s .lent .names) (s .lent .counts) proposalsPlace bytes (m .sender) priority ∙ proposals-view bench (m .view))
+        (proposal-view filed (s .lent .names) (s .lent .counts) proposalsPlace bytes (m .sender) priority ∙ proposals-view bench (m .view))
         holds-then (λ x d j. proposals-other (p .proposals) heard x j (inl d)) u o;
     since =
         record {

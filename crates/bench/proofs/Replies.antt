@@ -1,14 +1,14 @@
--- The code's answers, read as document 01's: nothing is lost by it. Assumes nothing.
+-- The code's answers, read as document 01's: each by its case, and nothing is lost by it. Assumes nothing.
 use Prim.Native.Nat.{ℕ}
 use mathlib.Core.List.{List}
 use mathlib.Core.Option.{some, none}
 use mathlib.Core.Path.{_≡_, refl, sym, ap, _∙_}
 use lib.ListN.{length}
-use Rattle.message.specs.Message.{logMessage, proposalMessage}
+use Rattle.message.specs.Message.{logMessage, proposalMessage, priorityIn}
 use Rattle.message.proofs.Acceptance.{length-blocks}
 use Rattle.agreement.specs.Filing.{first, second, known}
 use Rattle.bench.specs.Calls.{Reply, refused, done, took, acted}
-use Rattle.bench.specs.Answers.{startReply, takenReply, madeReply}
+use Rattle.bench.specs.Answers.{startReply, takenReply, contentMade, madeReply}
 use Rattle.bench.specs.declared.Start.{Start}
 use Rattle.bench.specs.declared.Start.the-variants as starts
 use Rattle.bench.specs.declared.Taken.{Taken}
@@ -16,7 +16,17 @@ use Rattle.bench.specs.declared.Taken.the-variants as takings
 use Rattle.bench.specs.declared.Made.{Made}
 use Rattle.bench.specs.declared.Made.the-variants as makings
 
--- ---- Open and Begin: the answer that a reply comes from
+-- ---- Open and Begin
+
+pub start-done : startReply starts.Done ≡ done
+unfolding startReply
+start-done = refl
+
+pub start-refused : (k : ℕ) → startReply (starts.Refused k) ≡ refused k
+unfolding startReply
+start-refused k = refl
+
+-- the answer that a reply comes from
 
 abbrev startBack : Reply → Start
 startBack (refused k) = starts.Refused k
@@ -33,6 +43,22 @@ pub startReply-injective : (a b : Start) → startReply a ≡ startReply b → a
 startReply-injective a b e = sym (start-back a) ∙ ap startBack e ∙ start-back b
 
 -- ---- Receive
+
+pub taken-first : takenReply takings.First ≡ took first
+unfolding takenReply
+taken-first = refl
+
+pub taken-second : takenReply takings.Second ≡ took second
+unfolding takenReply
+taken-second = refl
+
+pub taken-known : takenReply takings.Known ≡ took known
+unfolding takenReply
+taken-known = refl
+
+pub taken-refused : (k : ℕ) → takenReply (takings.Refused k) ≡ refused k
+unfolding takenReply
+taken-refused k = refl
 
 abbrev takenBack : Reply → Taken
 takenBack (refused k) = takings.Refused k
@@ -53,6 +79,23 @@ pub takenReply-injective : (a b : Taken) → takenReply a ≡ takenReply b → a
 takenReply-injective a b e = sym (taken-back a) ∙ ap takenBack e ∙ taken-back b
 
 -- ---- Act, whatever the buffer holds
+
+module _ (out : List ℕ) where
+  pub made-nothing : madeReply out makings.Nothing ≡ acted none
+  unfolding madeReply
+  made-nothing = refl
+
+  pub made-log : (k : ℕ) → madeReply out (makings.Log k) ≡ acted (some (logMessage (contentMade out k)))
+  unfolding madeReply
+  made-log k = refl
+
+  pub made-proposal : (k : ℕ) → madeReply out (makings.Proposal k) ≡ acted (some (proposalMessage (contentMade out k) (priorityIn out)))
+  unfolding madeReply
+  made-proposal k = refl
+
+  pub made-refused : (k : ℕ) → madeReply out (makings.Refused k) ≡ refused k
+  unfolding madeReply
+  made-refused k = refl
 
 abbrev madeBack : Reply → Made
 madeBack (refused k) = makings.Refused k

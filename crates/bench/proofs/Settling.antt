@@ -9,6 +9,7 @@ use Rattle.message.specs.Limits.{mostBlocks}
 use Rattle.message.specs.Numbers.{put}
 use Rattle.message.specs.Logs.{Log, isPrefix, namesOf, countsOf}
 use Rattle.message.specs.Store.{logAt}
+use Rattle.message.proofs.GoodLogs.{GoodLog}
 use Rattle.message.proofs.TestLaws.{either}
 use Rattle.message.proofs.ListedLaws.{log-stored}
 use Rattle.agreement.proofs.ElsewhereLaws.{Elsewhere, put-elsewhere}
@@ -22,7 +23,6 @@ use Rattle.bench.specs.Record.{agreementOf, proposalsOf, withGatheringOv
 use Rattle.bench.specs.ByRecord.{decidedLog, over, settled, standing}
 use Rattle.bench.proofs.Fine.{Fine}
 use Rattle.bench.proofs.FineBench.{over-fine, decided-fine, parted-fine}
-use Rattle.bench.proofs.GoodHistory.{GoodLog}
 use Rattle.bench.proofs.Ties.{Filled, Roomy, Tie}
 use Rattle.bench.proofs.Filling.{filled-decided}
 use Rattle.bench.proofs.LogTies.{roomy-elsewhere}

@@ -2,42 +2,23 @@
 use Prim.Native.Nat.{ℕ, _+_, _%_, _≤_, _<_}
 use native.Mathlib.Decide.{decLe}
 use native.Mathlib.Omega.{arith}
-use mathlib.Core.Bool.{Bool, true, false, _||_, _&&_}
-use mathlib.Core.List.{List}
+use mathlib.Core.Bool.{Bool, true, false}
 use mathlib.Core.Logic.{_⊎_, inl, inr}
 use mathlib.Core.Path.{_≡_, refl, sym, ap, _∙_}
 use borrow.Author.Tests.{eqb-true, eqb-false, eq-eqb, ne-eqb, ltb-true, ltb-false}
 use lib.Dec.{eqb}
-use lib.ListN.{getD}
 use Rattle.message.specs.Limits.{lastView}
 use Rattle.message.specs.Choice.{pick}
-use Rattle.message.specs.Logs.{sameLog}
-use Rattle.message.specs.Message.{logIn}
 use Rattle.message.proofs.TestLaws.{either}
-use Rattle.agreement.specs.Sets.{member}
-use Rattle.agreement.specs.Record.{emptyAgreement, filedLog, Agreement}
-use Rattle.agreement.specs.Filing.{unfit}
-use Rattle.agreement.specs.Proposals.{emptyProposals, fileProposalOf, Proposals}
-use Rattle.agreement.specs.Kept.{nothing, keptLog, keptProposal}
+use Rattle.agreement.specs.Record.{emptyAgreement, Agreement}
+use Rattle.agreement.specs.Proposals.{emptyProposals, Proposals}
 use Rattle.bench.specs.Layout.{isEven}
 use Rattle.bench.specs.Calendar.{inputBeat, closeBeat, logsShut, proposalsShut}
 use Rattle.bench.specs.Record.{ofView, slotOf, agreementOf, proposedIn, proposalsOf, withAgreement, withProposals, Bench}
 use Rattle.bench.specs.ByRecord.{keptAgreement, keptProposals, begunBench}
-use Rattle.agreement.proofs.KeptLaws.{cases}
-use Rattle.agreement.proofs.MaskLaws.{member-zero}
 use Rattle.bench.proofs.Fine.{FineAgreement, FineProposals, Fine}
 use Rattle.bench.proofs.FineAgreements.{empty-fine}
 use Rattle.bench.proofs.FineProposals.{empty-proposals-fine}
-
--- ---- nothing filed
-
-pub empty-kept : (names counts : List ℕ) (base v i : ℕ) → keptLog names counts base (emptyAgreement v) i ≡ nothing
-unfolding keptLog
-empty-kept names counts base v i = rw (member-zero i)
-
-pub empty-proposal-kept : (names counts : List ℕ) (base v i : ℕ) → keptProposal names counts base (emptyProposals v) i ≡ nothing
-unfolding keptProposal
-empty-proposal-kept names counts base v i = rw (member-zero i)
 
 -- ---- what a slot holds of view v
 
@@ -185,18 +166,6 @@ module _ (b : Bench) (v : ℕ) (g : Proposals) where
   pub proposals-beside : (u : ℕ) → g .marks .view ≡ v → (u ≡ v → ⊥) → proposalsOf (withProposals b g) u ≡ emptyProposals u
   unfolding proposalsOf
   proposals-beside u e h = other-proposals g u (λ z. h (sym z ∙ e))
-
--- ---- what is filed is view v's
-
--- a PROPOSAL leaves the view (for a LOG: KeptLaws, file-rest)
-pub file-proposal-view : (g : Proposals) (names counts : List ℕ) (base : ℕ) (s : List ℕ) (i priority : ℕ)
-    → fileProposalOf g names counts base s i priority .proposals .marks .view ≡ g .marks .view
-unfolding fileProposalOf
-file-proposal-view g names counts base s i priority =
-    cases (fileProposalOf g names counts base s i priority .proposals .marks .view ≡ g .marks .view)
-    (unfit names counts base s i || member (g .marks .aside) i) (member (g .marks .filed) i)
-    (sameLog (logIn s) (filedLog names counts base (g .lengths) i) && eqb priority (getD (g .priorities) i 0))
-    (λ q. rw q) (λ q v e. rw (q, v, e)) (λ q v e. rw (q, v, e)) (λ q v. rw (q, v))
 
 -- ---- what a Begin leaves
 
