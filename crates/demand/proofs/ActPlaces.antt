@@ -2,19 +2,16 @@
 use Prim.Native.Nat.{ℕ, _<_}
 use native.Mathlib.Omega.{arith}
 use mathlib.Core.Path.{_≡_, refl, sym, ap, subst, _∙_}
-use mathlib.Core.Logic.{_⊎_, inl, inr}
-use mathlib.Core.List.{List, [], _∷_, _++_, append-nil, append-assoc, List·Memᴰ as Mem, List·Memᴰ·head, List·Memᴰ·tail, List·Memᴰ·cases-cons, List·Memᴰ·not-nil}
-use mathlib.Core.Option.{Option, some, none, Option·none-ne-some, Option·some-injective}
-use mathlib.Core.Bool.{Bool, true, false, _||_, false≢true}
-use lib.Dec.{eqb}
-use borrow.Author.Tests.{eqb-true, eqb-false, eq-eqb}
-use Rattle.message.proofs.TestLaws.{or-true}
-use Rattle.message.specs.Choice.{pick}
+use mathlib.Core.Logic.{inl, inr}
+use mathlib.Core.List.{List, [], _∷_, _++_, append-nil, append-assoc, List·Memᴰ as Mem, List·Memᴰ·cases-cons, List·Memᴰ·not-nil}
+use mathlib.Core.Option.{Option, some, none, Option·some-injective}
+use mathlib.Core.Bool.{true}
 use Rattle.message.specs.Message.{Content}
 use Rattle.bench.specs.Terms.{Seat}
 use Rattle.bench.specs.Calls.{Call, begin, receive, act}
-use Rattle.bench.specs.History.{History, ActRecord, refusal, accepted, madeBy, decidedBy, after, actedAt, awake, heardAt}
-use Rattle.bench.proofs.CallLaws.{act-ok, recordOf, accepted-actions-act, accepted-actions-receive}
+use Rattle.bench.specs.History.{History, ActRecord, refusal, accepted, madeBy, decidedBy, after, awake, heardAt}
+use Rattle.bench.proofs.CallLaws.{act-ok, accepted-begin, recordOf, accepted-actions-act, accepted-actions-receive}
+use Rattle.bench.proofs.HistoryLaws.{awake-acted, actedAt-mem, mem-actedAt, heardAt-mem, mem-heardAt}
 use Rattle.demand.specs.Places.{At, ActsAfter}
 use Rattle.demand.proofs.Starts.{along}
 use Rattle.demand.proofs.Beats.{has-beat, beat-is, act-recorded, Order, same, before, behind, ordered, later, once}
@@ -32,8 +29,7 @@ module _ (S : Seat) (cs : List Call) where
   actPlace-step : (pre : List Call) (c : Call) → At cs pre c → refusal S (after S pre) c ≡ none
       → ((d : ActRecord) → Mem d (after S pre .actions) → ActPlace S cs d)
       → (d : ActRecord) → Mem d (accepted S (after S pre) c .actions) → ActPlace S cs d
-  unfolding accepted
-  actPlace-step pre (begin b) at ok ih d i = ih d i
+  actPlace-step pre (begin b) at ok ih d i = ih d (subst (λ (q : History). Mem d (q .actions)) (accepted-begin S (after S pre) b) i)
   actPlace-step pre (receive bytes) at ok ih d i =
       ih d (subst (λ (l : List ActRecord). Mem d l) (accepted-actions-receive S (after S pre) bytes ok) i)
   actPlace-step pre (act x r o) at ok ih d i =
@@ -67,48 +63,6 @@ module _ (S : Seat) (cs : List Call) where
   pub act-place : (pre post : List Call) → cs ≡ pre ++ post → (d : ActRecord) → Mem d (after S pre .actions) → ActPlace S cs d
   act-place =
       along S cs (λ (p : History). (d : ActRecord) → Mem d (p .actions) → ActPlace S cs d) (λ d i. absurd (List·Memᴰ·not-nil i)) actPlace-step
-
--- ---- a list of acts by beat
-
-actedAt-mem : (ds : List ActRecord) (b : ℕ) → actedAt ds b ≡ true → (d : ActRecord) × Mem d ds × (d .beat ≡ b)
-unfolding actedAt
-actedAt-mem [] b e = absurd (false≢true e)
-actedAt-mem (d ∷ ds) b e = go (eqb (d .beat) b) refl e (actedAt-mem ds b)
-  where
-    go : (t : Bool) → eqb (d .beat) b ≡ t → (t || actedAt ds b) ≡ true → (actedAt ds b ≡ true → (x : ActRecord) × Mem x ds × (x .beat ≡ b))
-        → (x : ActRecord) × Mem x (d ∷ ds) × (x .beat ≡ b)
-    go true q f below = (d, List·Memᴰ·head refl, eqb-true (d .beat) b q)
-    go false q f below = let x = below f in (x .0, List·Memᴰ·tail (x .1), x .2)
-
-mem-actedAt : (ds : List ActRecord) (d : ActRecord) (b : ℕ) → Mem d ds → d .beat ≡ b → actedAt ds b ≡ true
-unfolding actedAt
-mem-actedAt [] d b i e = absurd (List·Memᴰ·not-nil i)
-mem-actedAt (x ∷ xs) d b i e = elim (List·Memᴰ·cases-cons i) [
-  | inl q ↦ rw (eq-eqb (x .beat) b (ap (λ (y : ActRecord). y .beat) (sym q) ∙ e))
-  | inr j ↦ rw (mem-actedAt xs d b j e) (or-true (eqb (x .beat) b))
-]
-
-heardAt-mem : (ds : List ActRecord) (b : ℕ) (l : List Content) → heardAt ds b ≡ some l → (d : ActRecord) × Mem d ds × (d .beat ≡ b) × (d .heard ≡ l)
-unfolding heardAt
-heardAt-mem [] b l e = absurd (Option·none-ne-some _ e)
-heardAt-mem (d ∷ ds) b l e = go (eqb (d .beat) b) refl e (heardAt-mem ds b l)
-  where
-    go : (t : Bool) → eqb (d .beat) b ≡ t → pick t (some (d .heard)) (heardAt ds b) ≡ some l
-        → (heardAt ds b ≡ some l → (x : ActRecord) × Mem x ds × (x .beat ≡ b) × (x .heard ≡ l))
-        → (x : ActRecord) × Mem x (d ∷ ds) × (x .beat ≡ b) × (x .heard ≡ l)
-    go true q f below = (d, List·Memᴰ·head refl, eqb-true (d .beat) b q, Option·some-injective _ _ f)
-    go false q f below = let x = below f in (x .0, List·Memᴰ·tail (x .1), x .2, x .3)
-
-mem-heardAt : (ds : List ActRecord) (d : ActRecord) (b : ℕ) → Mem d ds → d .beat ≡ b → (l : List Content) × (heardAt ds b ≡ some l)
-unfolding heardAt
-mem-heardAt [] d b i e = absurd (List·Memᴰ·not-nil i)
-mem-heardAt (x ∷ xs) d b i e = go (eqb (x .beat) b) refl (List·Memᴰ·cases-cons i) (λ j. mem-heardAt xs d b j e)
-  where
-    go : (t : Bool) → eqb (x .beat) b ≡ t → (d ≡ x) ⊎ Mem d xs → (Mem d xs → (l : List Content) × (heardAt xs b ≡ some l))
-        → (l : List Content) × (pick t (some (x .heard)) (heardAt xs b) ≡ some l)
-    go true q j below = (x .heard, refl)
-    go false q (inl j) below = absurd (eqb-false (x .beat) b q (ap (λ (y : ActRecord). y .beat) (sym j) ∙ e))
-    go false q (inr j) below = below j
 
 -- ---- the acts of the list by beat
 
@@ -155,16 +109,15 @@ module _ (S : Seat) (cs : List Call) where
 
   -- awake at a beat: the test, and the act
   pub awake-acts : (b : ℕ) → awake S cs b ≡ true → (pre : List Call) × ActsAfter S cs pre b
-  unfolding awake
   awake-acts b e =
-      let x = actedAt-mem (after S cs .actions) b e in
+      let x = actedAt-mem (after S cs .actions) b (sym (awake-acted S cs b) ∙ e) in
       let y = act-place S cs cs [] (sym (append-nil cs)) (x .0) (x .1) in
       (y .pre, subst (ActsAfter S cs (y .pre)) (x .2) (y .acts))
 
   pub acts-awake : (pre : List Call) (b : ℕ) → ActsAfter S cs pre b → awake S cs b ≡ true
-  unfolding awake
   acts-awake pre b a =
-      mem-actedAt (after S cs .actions) (recordOf S (after S pre) (a .block) (a .priority)) b (recorded pre b a) (beat-is (after S pre) b (a .beat))
+      awake-acted S cs b
+      ∙ mem-actedAt (after S cs .actions) (recordOf S (after S pre) (a .block) (a .priority)) b (recorded pre b a) (beat-is (after S pre) b (a .beat))
 
   -- what the act of a beat had heard, by the whole list
   pub act-heard : (pre : List Call) (b : ℕ) → ActsAfter S cs pre b → heardAt (after S cs .actions) b ≡ some (after S pre .heard)

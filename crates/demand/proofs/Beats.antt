@@ -13,10 +13,11 @@ use Rattle.message.specs.Logs.{Block}
 use Rattle.message.specs.Message.{Content}
 use Rattle.bench.specs.Terms.{Seat}
 use Rattle.bench.specs.Calls.{Call, begin, receive, act}
-use Rattle.bench.specs.History.{History, ActRecord, beatNow, refusal, notAbove, closed, accepted, madeBy, decidedBy, step, after, afterFrom}
-use Rattle.bench.proofs.CallLaws.{step-cases, begin-ok, act-ok, receive-ok, file-last, made-last, made-gathering, file-heard, made-heard, accepted-receive, accepted-act, recordOf, accepted-actions-act, accepted-actions-receive}
+use Rattle.bench.specs.History.{History, ActRecord, beatNow, refusal, notAbove, closed, accepted, madeBy, decidedBy, after}
+use Rattle.bench.proofs.CallLaws.{begin-ok, act-ok, receive-ok, file-last, made-last, made-gathering, file-heard, made-heard, accepted-begin, accepted-receive, accepted-act, recordOf, accepted-actions-act, accepted-actions-receive}
+use Rattle.bench.proofs.HistoryLaws.{afterFrom-keeps, after-append, after-ok}
 use Rattle.demand.specs.Places.{At, ActsAfter}
-use Rattle.demand.proofs.Starts.{after-append, after-ok, along}
+use Rattle.demand.proofs.Starts.{along}
 
 -- ---- the last begun beat
 
@@ -42,11 +43,10 @@ above-last b o t h e = leb-false b t (rw e at h)
 module _ (S : Seat) where
   -- a later beat is higher
   upTo-begin : (p : History) (b c : ℕ) → refusal S p (begin c) ≡ none → UpTo p b → UpTo (accepted S p (begin c)) (suc b)
-  unfolding accepted
   upTo-begin p b c ok u =
       let l = above-last c (p .last) (u .top) (begin-ok S p c ok .1) (u .last) in
       let k = u .le in
-      record { top = c; last = refl; le = omega arith }
+      record { top = c; last = ap (λ (q : History). q .last) (accepted-begin S p c); le = omega arith }
 
   -- the beat does not change but by a Begin
   pub receive-last : (p : History) (bytes : List ℕ) → refusal S p (receive bytes) ≡ none → accepted S p (receive bytes) .last ≡ p .last
@@ -93,8 +93,7 @@ module _ (S : Seat) where
   HasBeat p = p .gathering ≡ true → (b : ℕ) × (p .last ≡ some b)
 
   hasBeat-step : (p : History) (c : Call) → refusal S p c ≡ none → HasBeat p → HasBeat (accepted S p c)
-  unfolding accepted
-  hasBeat-step p (begin b) ok h g = (b, refl)
+  hasBeat-step p (begin b) ok h g = (b, ap (λ (q : History). q .last) (accepted-begin S p b))
   hasBeat-step p (receive bytes) ok h g = let x = h (receive-ok S p bytes ok .gathering) in (x .0, receive-last S p bytes ok ∙ x .1)
   hasBeat-step p (act x r o) ok h g = absurd (false≢true (sym (act-gathering S p x r o) ∙ g))
 
@@ -104,53 +103,31 @@ module _ (S : Seat) where
 
   -- ---- what is recorded, or heard, stays
 
-  step-actions : (p : History) (c : Call) (d : ActRecord) → Mem d (p .actions) → Mem d (step S p c .actions)
-  unfolding accepted
-  step-actions p c d i = elim (step-cases S p c) [
-    | inl e ↦ subst (λ (q : History). Mem d (q .actions)) (sym e) i
-    | inr e ↦ subst (λ (q : History). Mem d (q .actions)) (sym (e .1)) (keep c (e .0))
-  ]
-    where
-      keep : (c : Call) → refusal S p c ≡ none → Mem d (accepted S p c .actions)
-      keep (begin b) ok = i
-      keep (receive bytes) ok = subst (λ (l : List ActRecord). Mem d l) (sym (accepted-actions-receive S p bytes ok)) i
-      keep (act x r o) ok = subst (λ (l : List ActRecord). Mem d l) (sym (accepted-actions-act S p x r o)) (List·Memᴰ·tail i)
+  actions-step : (d : ActRecord) (p : History) (c : Call) → refusal S p c ≡ none → Mem d (p .actions) → Mem d (accepted S p c .actions)
+  actions-step d p (begin b) ok i = subst (λ (q : History). Mem d (q .actions)) (sym (accepted-begin S p b)) i
+  actions-step d p (receive bytes) ok i = subst (λ (l : List ActRecord). Mem d l) (sym (accepted-actions-receive S p bytes ok)) i
+  actions-step d p (act x r o) ok i = subst (λ (l : List ActRecord). Mem d l) (sym (accepted-actions-act S p x r o)) (List·Memᴰ·tail i)
 
-  step-heard : (p : History) (c : Call) (h : Content) → Mem h (p .heard) → Mem h (step S p c .heard)
-  unfolding accepted
-  step-heard p c h i = elim (step-cases S p c) [
-    | inl e ↦ subst (λ (q : History). Mem h (q .heard)) (sym e) i
-    | inr e ↦ subst (λ (q : History). Mem h (q .heard)) (sym (e .1)) (keep c (e .0))
-  ]
-    where
-      keep : (c : Call) → refusal S p c ≡ none → Mem h (accepted S p c .heard)
-      keep (begin b) ok = i
-      keep (receive bytes) ok =
-          let r = receive-ok S p bytes ok in
-          subst (λ (q : History). Mem h (q .heard)) (sym (accepted-receive S p bytes (r .message) (r .read))) (file-heard p (r .message) h i)
-      keep (act x r o) ok =
-          let m = madeBy S p x r in
-          subst (λ (q : History). Mem h (q .heard)) (sym (accepted-act S p x r o)) (made-heard (closed p m (decidedBy S p)) m h i)
-
-  afterFrom-actions : (p : History) (cs : List Call) (d : ActRecord) → Mem d (p .actions) → Mem d (afterFrom S p cs .actions)
-  unfolding afterFrom
-  afterFrom-actions p [] d i = i
-  afterFrom-actions p (c ∷ cs) d i = afterFrom-actions (step S p c) cs d (step-actions p c d i)
-
-  afterFrom-heard : (p : History) (cs : List Call) (h : Content) → Mem h (p .heard) → Mem h (afterFrom S p cs .heard)
-  unfolding afterFrom
-  afterFrom-heard p [] h i = i
-  afterFrom-heard p (c ∷ cs) h i = afterFrom-heard (step S p c) cs h (step-heard p c h i)
+  heard-step : (h : Content) (p : History) (c : Call) → refusal S p c ≡ none → Mem h (p .heard) → Mem h (accepted S p c .heard)
+  heard-step h p (begin b) ok i = subst (λ (q : History). Mem h (q .heard)) (sym (accepted-begin S p b)) i
+  heard-step h p (receive bytes) ok i =
+      let r = receive-ok S p bytes ok in
+      subst (λ (q : History). Mem h (q .heard)) (sym (accepted-receive S p bytes (r .message) (r .read))) (file-heard p (r .message) h i)
+  heard-step h p (act x r o) ok i =
+      let m = madeBy S p x r in
+      subst (λ (q : History). Mem h (q .heard)) (sym (accepted-act S p x r o)) (made-heard (closed p m (decidedBy S p)) m h i)
 
   pub heard-grow : (xs ys : List Call) (h : Content) → Mem h (after S xs .heard) → Mem h (after S (xs ++ ys) .heard)
-  heard-grow xs ys h i = subst (λ (q : History). Mem h (q .heard)) (sym (after-append S xs ys)) (afterFrom-heard (after S xs) ys h i)
+  heard-grow xs ys h i =
+      subst (λ (q : History). Mem h (q .heard)) (sym (after-append S xs ys))
+      (afterFrom-keeps S (λ (q : History). Mem h (q .heard)) (heard-step h) (after S xs) ys i)
 
   -- an act is on record from then on
   pub act-recorded : (pre mid : List Call) (x : Block) (r : ℕ) (o : List ℕ) → refusal S (after S pre) (act x r o) ≡ none
       → Mem (recordOf S (after S pre) x r) (after S ((pre ++ (act x r o ∷ [])) ++ mid) .actions)
   act-recorded pre mid x r o ok =
       subst (λ (q : History). Mem d (q .actions)) (sym (after-append S (pre ++ (act x r o ∷ [])) mid))
-      (afterFrom-actions (after S (pre ++ (act x r o ∷ []))) mid d
+      (afterFrom-keeps S (λ (q : History). Mem d (q .actions)) (actions-step d) (after S (pre ++ (act x r o ∷ []))) mid
       (subst (λ (l : List ActRecord). Mem d l)
       (sym (ap (λ (q : History). q .actions) (after-ok S pre (act x r o) ok) ∙ accepted-actions-act S (after S pre) x r o))
       (List·Memᴰ·head refl)))
@@ -164,8 +141,8 @@ module _ (S : Seat) where
   ActsBelow p = (d : ActRecord) → Mem d (p .actions) → Below p (d .beat)
 
   actsBelow-step : (p : History) (c : Call) → refusal S p c ≡ none → HasBeat p → ActsBelow p → ActsBelow (accepted S p c)
-  unfolding accepted
-  actsBelow-step p (begin b) ok has h d i = below-step p (d .beat) (begin b) ok (h d i)
+  actsBelow-step p (begin b) ok has h d i =
+      below-step p (d .beat) (begin b) ok (h d (subst (λ (q : History). Mem d (q .actions)) (accepted-begin S p b) i))
   actsBelow-step p (receive bytes) ok has h d i =
       below-step p (d .beat) (receive bytes) ok (h d (subst (λ (l : List ActRecord). Mem d l) (accepted-actions-receive S p bytes ok) i))
   actsBelow-step p (act x r o) ok has h d i =

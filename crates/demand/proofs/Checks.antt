@@ -1,7 +1,7 @@
 -- The premises of demand 3 as tests of a volume that is written out, to be computed: a test that holds gives the premise. Assumes nothing.
 use Prim.Native.Nat.{ℕ, _≤_}
 use native.Mathlib.Omega.{arith}
-use mathlib.Core.Path.{_≡_, refl, sym, ap, subst, _∙_}
+use mathlib.Core.Path.{_≡_, sym, ap, subst, _∙_}
 use mathlib.Core.Logic.{_⊎_, inl, inr}
 use mathlib.Core.List.{List, [], _∷_, _++_, append-nil, append-assoc, List·Memᴰ as Mem, List·Memᴰ·head, Memᴰ·cast, Memᴰ·append-left, Memᴰ·append-right}
 use mathlib.Core.Option.{Option, some, none}
@@ -16,14 +16,15 @@ use Rattle.agreement.specs.Filing.{Word, first, second, known}
 use Rattle.bench.specs.Terms.{Seat, seatOf, weightOf}
 use Rattle.bench.specs.Calendar.{viewBeat, closeBeat}
 use Rattle.bench.specs.Calls.{Call, begin, receive, act}
-use Rattle.bench.specs.History.{History, ActRecord, fresh, beatNow, refusal, file, wordFor, accepted, madeBy, step, after, afterFrom}
-use Rattle.bench.proofs.CallLaws.{receive-ok, taken-reply, took-injective, accepted-receive, recordOf, receive-open}
+use Rattle.bench.specs.History.{History, ActRecord, fresh, beatNow, refusal, wordFor, madeBy, step, after, afterFrom}
+use Rattle.bench.proofs.CallLaws.{filed-heard, accepted-begin, receive-ok, taken-reply, took-injective, accepted-receive, recordOf, receive-open}
+use Rattle.bench.proofs.HistoryActs.{made-vote}
+use Rattle.bench.proofs.HistoryLaws.{afterFrom-nil, afterFrom-cons, after-from, after-append, after-ok}
 use Rattle.demand.specs.Places.{Begins, MakesAfter, Sends, sendsMade, sendsOn, With}
 use Rattle.demand.specs.Premises.{Volume, seat, Delivery, Numbers, Majority, counted, breaker}
 use Rattle.demand.proofs.ListTests.{all, all-use, any, any-use, allBelow, below-use, implies, implies-use}
-use Rattle.demand.proofs.Starts.{after-append, after-ok}
 use Rattle.demand.proofs.Beats.{UpTo, upTo-now, heard-grow, act-recorded, beat-is}
-use Rattle.demand.proofs.HeardFrom.{taken, made, heard-from, made-vote}
+use Rattle.demand.proofs.HeardFrom.{taken, made, heard-from}
 use Rattle.demand.proofs.ActPlaces.{act-place}
 use Rattle.demand.proofs.Taking.{upTo-from}
 
@@ -67,11 +68,19 @@ unfoldable pub sentList : Seat → History → List Call → List SentLog
 sentList S p [] = []
 sentList S p (c ∷ cs) = sentBy S p c ++ sentList S (step S p c) cs
 
-sentBy-listed : (S : Seat) (pre : List Call) (c : Call) (post : List Call) (p : History) (l : SentLog)
+sentFrom-listed : (S : Seat) (pre : List Call) (c : Call) (post : List Call) (p : History) (l : SentLog)
     → Mem l (sentBy S (afterFrom S p pre) c) → Mem l (sentList S p (pre ++ (c ∷ post)))
-unfolding sentList afterFrom
-sentBy-listed S [] c post p l i = Memᴰ·append-left (sentList S (step S p c) post) i
-sentBy-listed S (x ∷ xs) c post p l i = Memᴰ·append-right (sentBy S p x) (sentBy-listed S xs c post (step S p x) l i)
+unfolding sentList
+sentFrom-listed S [] c post p l i =
+    Memᴰ·append-left (sentList S (step S p c) post) (subst (λ (q : History). Mem l (sentBy S q c)) (afterFrom-nil S p) i)
+sentFrom-listed S (x ∷ xs) c post p l i =
+    Memᴰ·append-right (sentBy S p x)
+    (sentFrom-listed S xs c post (step S p x) l (subst (λ (q : History). Mem l (sentBy S q c)) (afterFrom-cons S p x xs) i))
+
+sentBy-listed : (S : Seat) (pre : List Call) (c : Call) (post : List Call) (l : SentLog)
+    → Mem l (sentBy S (after S pre) c) → Mem l (sentList S (fresh S) (pre ++ (c ∷ post)))
+sentBy-listed S pre c post l i =
+    sentFrom-listed S pre c post (fresh S) l (subst (λ (q : History). Mem l (sentBy S q c)) (after-from S pre) i)
 
 new-is : (w : Word) → (w ≡ first) ⊎ (w ≡ second) → isNew w ≡ true
 new-is w (inl e) = rw e
@@ -81,11 +90,11 @@ at-beat : (p : History) (b : ℕ) (m : Content) → p .last ≡ some b → _≡_
 at-beat p b m e = ap {B = SentLog} (λ (k : ℕ). record { beat = k; content = m }) (sym (beat-is p b e))
 
 sends-listed : (S : Seat) (cs : List Call) (b : ℕ) (m : Content) → Sends S cs b m → Mem (record { beat = b; content = m }) (sentList S (fresh S) cs)
-unfolding sentBy sentRead sentMade after
+unfolding sentBy sentRead sentMade
 sends-listed S cs b m (sendsMade pre t) =
     let a = t .acts in
     rw (a .place .1)
-    (sentBy-listed S pre (act (a .block) (a .priority) (a .out)) (a .place .0) (fresh S) (record { beat = b; content = m })
+    (sentBy-listed S pre (act (a .block) (a .priority) (a .out)) (a .place .0) (record { beat = b; content = m })
     (rw (a .ok, t .made) (List·Memᴰ·head (at-beat (after S pre) b m (a .beat)))))
 sends-listed S cs b m (sendsOn pre t f) =
     let p = after S pre in
@@ -93,7 +102,7 @@ sends-listed S cs b m (sendsOn pre t f) =
     let g : (wordFor p (logMessage m) ≡ first) ⊎ (wordFor p (logMessage m) ≡ second) =
     elim f [ inl e ↦ inl (took-injective _ _ (sym q ∙ e)) | inr e ↦ inr (took-injective _ _ (sym q ∙ e)) ] in
     rw (t .place .1)
-    (sentBy-listed S pre (receive (t .bytes)) (t .place .0) (fresh S) (record { beat = b; content = m })
+    (sentBy-listed S pre (receive (t .bytes)) (t .place .0) (record { beat = b; content = m })
     (rw (t .ok, t .read) (rw (new-is (wordFor p (logMessage m)) g) (List·Memᴰ·head (at-beat p b m (t .beat))))))
 
 -- ---- delivery
@@ -192,14 +201,14 @@ numberedb W =
     (all (λ (m : Content). implies (W .keeper (m .sender)) (actMade (seat W (m .sender)) (W .calls (m .sender)) m)) (after (seat W q) (W .calls q) .heard)))
 
 pub numbered : (W : Volume) → numberedb W ≡ true → Numbers W
-unfolding numberedb file
+unfolding numberedb
 numbered W e p q kp kq pre b m t s =
     let T = W .terms in
     let c = receive (t .bytes) in
     let whole : W .calls q ≡ (pre ++ (c ∷ [])) ++ t .place .0 = t .place .1 ∙ sym (append-assoc pre (c ∷ []) (t .place .0)) in
     let new : Mem m (after (seatOf T q) (pre ++ (c ∷ [])) .heard) =
     subst (λ (g : History). Mem m (g .heard)) (sym (after-ok (seatOf T q) pre c (t .ok) ∙ accepted-receive (seatOf T q) (after (seatOf T q) pre) (t .bytes) (logMessage m) (t .read)))
-    (List·Memᴰ·head refl) in
+    (filed-heard (after (seatOf T q) pre) m) in
     let i : Mem m (after (seatOf T q) (W .calls q) .heard) =
     subst (λ (cs : List Call). Mem m (after (seatOf T q) cs .heard)) (sym whole) (heard-grow (seatOf T q) (pre ++ (c ∷ [])) (t .place .0) m new) in
     let x = implies-use _ _ (below-use (T .n) _ e q (kq .0)) (kq .1) in
@@ -216,11 +225,11 @@ majorityb W top =
 
 -- a beat begun is at most the last begun
 begun-upTo : (S : Seat) (cs : List Call) (b : ℕ) → Begins S cs b → b ≤ beatNow (after S cs)
-unfolding accepted
 begun-upTo S cs b g =
     let q = after S (g .pre ++ (begin b ∷ [])) in
     let e : cs ≡ (g .pre ++ (begin b ∷ [])) ++ g .place .0 = g .place .1 ∙ sym (append-assoc (g .pre) (begin b ∷ []) (g .place .0)) in
-    let u = upTo-from S cs q (g .place .0) b (upTo-now q b (ap (λ (p : History). p .last) (after-ok S (g .pre) (begin b) (g .ok)))) in
+    let f = after-ok S (g .pre) (begin b) (g .ok) ∙ accepted-begin S (after S (g .pre)) b in
+    let u = upTo-from S cs q (g .place .0) b (upTo-now q b (ap (λ (p : History). p .last) f)) in
     let w : UpTo (after S cs) b = subst (λ (p : History). UpTo p b) (sym (ap (after S) e ∙ after-append S (g .pre ++ (begin b ∷ [])) (g .place .0))) u in
     let l = w .le in
     let k = beat-is (after S cs) (w .top) (w .last) in

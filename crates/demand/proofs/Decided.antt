@@ -6,13 +6,14 @@ use mathlib.Core.List.{List, [], _∷_, _++_, append-nil, append-assoc, List·Me
 use mathlib.Core.Option.{Option, some, none}
 use mathlib.Core.Bool.{true, false, false≢true}
 use Rattle.message.specs.Logs.{Log, Prefix, empty, Compatible, isPrefix}
-use Rattle.message.proofs.TestLaws.{either}
 use Rattle.message.proofs.LogLaws.{prefix-refl, prefix-trans, prefix-length, isPrefix-iff}
 use Rattle.bench.specs.Terms.{Terms, Seat, nothingStands, seatOf}
 use Rattle.bench.specs.Calls.{Call, act}
 use Rattle.bench.specs.Acts.{Stand, settle}
 use Rattle.bench.specs.History.{ActRecord, after, standIn, stand}
 use Rattle.bench.proofs.CallLaws.{recordOf}
+use Rattle.bench.proofs.HistoryActs.{settle-none, settle-cases}
+use Rattle.bench.proofs.HistoryLaws.{stand-in, standIn-nil, standIn-cons}
 use Rattle.demand.specs.Places.{Decides, LongestDecided}
 use Rattle.demand.proofs.Beats.{act-recorded}
 use Rattle.demand.proofs.ActPlaces.{act-place}
@@ -115,52 +116,61 @@ Agreeing Ls = (L M : Log) → Mem L Ls → Mem M Ls → Compatible L M
 
 -- one more decision
 settle-good : (Ls : List Log) (st : Stand) (L : Log) → Agreeing (L ∷ Ls) → Good Ls st → Good (L ∷ Ls) (settle st (some L))
-unfolding settle
-settle-good Ls st L agree g = either (isPrefix (st .log) L) extends stays
+settle-good Ls st L agree g =
+    settle-cases st L (Good (L ∷ Ls)) extends stays (λ e f. absurd (false≢true (sym f ∙ isPrefix-iff L (st .log) .1 (under e))))
   where
-    extends : isPrefix (st .log) L ≡ true → Good (L ∷ Ls) (settle st (some L))
+    -- where what stands is no prefix of L, it is one of the logs decided, and L is a prefix of it
+    no : isPrefix (st .log) L ≡ false → Prefix (st .log) L → ⊥
+    no e k = false≢true (sym e ∙ isPrefix-iff (st .log) L .1 k)
+
+    stood : isPrefix (st .log) L ≡ false → Mem (st .log) Ls
+    stood e = elim (g .among) [ inl m ↦ m | inr q ↦ absurd (no e (rw (q .0) empty)) ]
+
+    under : isPrefix (st .log) L ≡ false → Prefix L (st .log)
+    under e = elim (agree (st .log) L (List·Memᴰ·tail (stood e)) (List·Memᴰ·head refl)) [ inl k ↦ absurd (no e k) | inr k ↦ k ]
+
+    extends : isPrefix (st .log) L ≡ true → Good (L ∷ Ls) (record { log = L; parted = st .parted })
     extends e =
         let h = isPrefix-iff (st .log) L .0 e in
-        rw e (record {
+        record {
           unmarked = g .unmarked;
           above = λ M i. elim (List·Memᴰ·cases-cons i) [ inl q ↦ rw q (prefix-refl L) | inr j ↦ prefix-trans (g .above M j) h ];
           among = inl (List·Memᴰ·head refl);
-        })
+        }
 
-    stays : isPrefix (st .log) L ≡ false → Good (L ∷ Ls) (settle st (some L))
-    stays e =
-        let no : Prefix (st .log) L → ⊥ = λ k. false≢true (sym e ∙ isPrefix-iff (st .log) L .1 k) in
-        let m : Mem (st .log) Ls = elim (g .among) [ inl m ↦ m | inr q ↦ absurd (no (rw (q .0) empty)) ] in
-        let h : Prefix L (st .log) = elim (agree (st .log) L (List·Memᴰ·tail m) (List·Memᴰ·head refl)) [ inl k ↦ absurd (no k) | inr k ↦ k ] in
-        rw (e, isPrefix-iff L (st .log) .1 h) (record {
-          unmarked = g .unmarked;
-          above = λ M i. elim (List·Memᴰ·cases-cons i) [ inl q ↦ rw q h | inr j ↦ g .above M j ];
-          among = inl (List·Memᴰ·tail m);
-        })
+    stays : isPrefix (st .log) L ≡ false → isPrefix L (st .log) ≡ true → Good (L ∷ Ls) st
+    stays e f = record {
+      unmarked = g .unmarked;
+      above = λ M i. elim (List·Memᴰ·cases-cons i) [ inl q ↦ rw q (under e) | inr j ↦ g .above M j ];
+      among = inl (List·Memᴰ·tail (stood e));
+    }
 
 decided-more : (Ls : List Log) (st : Stand) (o : Option Log) → Agreeing (keepSome o Ls) → (Agreeing Ls → Good Ls st) → Good (keepSome o Ls) (settle st o)
-unfolding settle
-decided-more Ls st none agree below = below agree
+decided-more Ls st none agree below = subst (Good Ls) (sym (settle-none st)) (below agree)
 decided-more Ls st (some L) agree below = settle-good Ls st L agree (below (λ M K i j. agree M K (List·Memᴰ·tail i) (List·Memᴰ·tail j)))
 
 stand-good : (ds : List ActRecord) → Agreeing (decidedIn ds) → Good (decidedIn ds) (standIn nothingStands ds)
-unfolding standIn decidedIn
-stand-good [] agree = record { unmarked = refl; above = λ L i. absurd (List·Memᴰ·not-nil i); among = inr (refl, refl) }
-stand-good (d ∷ ds) agree = decided-more (decidedIn ds) (standIn nothingStands ds) (d .decided) agree (stand-good ds)
+unfolding decidedIn
+stand-good [] agree =
+    subst (Good []) (sym (standIn-nil nothingStands))
+    (record { unmarked = refl; above = λ L i. absurd (List·Memᴰ·not-nil i); among = inr (refl, refl) })
+stand-good (d ∷ ds) agree =
+    subst (Good (decidedIn (d ∷ ds))) (sym (standIn-cons nothingStands d ds))
+    (decided-more (decidedIn ds) (standIn nothingStands ds) (d .decided) agree (stand-good ds))
 
 -- Where no two logs decided in the list conflict, what stands is the longest of them, and there is no mark.
 pub stands-longest : (T : Terms) (own : ℕ) (cs : List Call) → ((L M : Log) → Decides (seatOf T own) cs L → Decides (seatOf T own) cs M → Compatible L M)
     → LongestDecided (seatOf T own) cs (stand (seatOf T own) cs .log) × (stand (seatOf T own) cs .parted ≡ false)
-unfolding stand
 stands-longest T own cs agree =
     let ds = after (seatOf T own) cs .actions in
+    let s = stand-in (seatOf T own) cs in
     let g = stand-good ds (λ L M i j. agree L M (mem-decides (seatOf T own) cs L i) (mem-decides (seatOf T own) cs M j)) in (
-      record {
+      subst (λ (st : Stand). LongestDecided (seatOf T own) cs (st .log)) (sym s) (record {
         among = elim (g .among) [
           | inl m ↦ inl (mem-decides (seatOf T own) cs (standIn nothingStands ds .log) m)
           | inr e ↦ inr (e .0, λ M d. List·Memᴰ·not-nil (rw (e .1) at (decides-mem (seatOf T own) cs M d)))
         ];
         above = λ M d. prefix-length (g .above M (decides-mem (seatOf T own) cs M d));
-      },
-      g .unmarked,
+      }),
+      ap (λ (st : Stand). st .parted) s ∙ g .unmarked,
     )

@@ -4,24 +4,23 @@ use Prim.Native.Nat.{ℕ, zero, suc, _≤_, _<_}
 use native.Mathlib.Omega.{arith}
 use mathlib.Core.Path.{_≡_, refl, sym, ap, subst, _∙_}
 use mathlib.Core.List.{List, []}
-use mathlib.Core.Option.{some, Option·none-ne-some}
+use mathlib.Core.Option.{some}
 use mathlib.Core.Bool.{Bool, true, false, not, _&&_, and-eq-true-iff}
-use borrow.Author.Tests.{lt-ltb, le-leb}
+use borrow.Author.Tests.{lt-ltb}
 use Rattle.message.specs.Logs.{Log, Prefix, Compatible}
 use Rattle.message.specs.Message.{Content}
-use Rattle.agreement.specs.Heard.{heardLogs, votersOf, gradeWith, heardProposals, voteAmong}
+use Rattle.agreement.specs.Heard.{heardLogs, votersOf, heardProposals, voteAmong}
 use Rattle.agreement.proofs.SetLaws.{weigh-cong}
 use Rattle.agreement.proofs.SenderLaws.{grade-some}
 use Rattle.agreement.proofs.GradeSources.{vote-extends, logBy}
-use Rattle.bench.specs.Calendar.{lastView, inputBeat, snapshotOneBeat, snapshotTwoBeat, closeBeat, actAt, viewOf, placeIn, voting}
+use Rattle.bench.specs.Calendar.{lastView, inputBeat, snapshotOneBeat, snapshotTwoBeat, closeBeat, voting}
 use Rattle.bench.specs.Terms.{Terms, Seat, seatOf, weightOf}
 use Rattle.bench.specs.Calls.{Call}
-use Rattle.bench.specs.Acts.{vote, makes, inViews, decides}
-use Rattle.bench.specs.History.{History, beatNow, snapshotOf, gradeAt, usedAt, seenAt, heardAt, madeBy, decidedBy, after, awake}
+use Rattle.bench.specs.History.{History, usedAt, after, awake}
+use Rattle.bench.proofs.HistoryActs.{used-first, used-lock, Vote, made-vote, makes-log, Decision, decision}
 use Rattle.demand.specs.Places.{ActsAfter, MakesAfter, Decides}
 use Rattle.demand.specs.Premises.{Volume, seat, Keeps, Delivery, Numbers, Majority, counted, breaker}
 use Rattle.demand.proofs.Beats.{beat-is}
-use Rattle.demand.proofs.HeardFrom.{Vote, made-vote}
 use Rattle.demand.proofs.ActPlaces.{place-heardAt, recorded-before}
 use Rattle.demand.proofs.Snapshots.{GradedAt, graded-at}
 use Rattle.demand.proofs.Taking.{taken-window, act-begun}
@@ -40,74 +39,52 @@ module _ (S : Seat) (cs : List Call) where
 
   made-lock : (pre : List Call) (b v : ℕ) (L : Log) → MakesAfter S cs pre b (logBy (S .own) (suc v) L)
       → (K : Log) × GradedAt S cs pre v (snapshotTwoBeat v) K × Prefix K L
-  unfolding usedAt gradeAt
   made-lock pre b v L t =
       let a = the-vote pre b (logBy (S .own) (suc v) L) t in (
         a .locked,
-        graded-at S cs pre _ (t .acts .place .1) v (snapshotTwoBeat v) (a .locked) (a .isLock),
+        graded-at S cs pre _ (t .acts .place .1) v (snapshotTwoBeat v) (a .locked) (sym (used-lock S (after S pre) v) ∙ a .isLock),
         subst (Prefix (a .locked)) (sym (a .voted)) (vote-extends (S .terms .n) (heardProposals (after S pre .proposals) (suc v)) (a .locked)),
       )
 
   -- an act at a view's input beat votes, where there is a lock
   acts-vote : (pre : List Call) (v : ℕ) (K : Log) (a : ActsAfter S cs pre (inputBeat v)) → v ≤ lastView → usedAt S (after S pre) v voting ≡ some K
       → (L : Log) × MakesAfter S cs pre (inputBeat v) (logBy (S .own) v L)
-  unfolding madeBy makes vote
   acts-vote pre v K a l q =
       let p = after S pre in
-      let e = beat-is p (inputBeat v) (a .beat) in
-      let d : viewOf (beatNow p) ≡ v = omega arith in
-      let m : placeIn (beatNow p) ≡ 1 = omega arith in
-      (voteAmong (S .terms .n) (heardProposals (p .proposals) v) K, record { acts = a; made = rw (d, m, q) (rw (le-leb v lastView l, inViews)) })
+      let m = makes-log S p (a .block) (a .priority) v K (beat-is p (inputBeat v) (a .beat)) l q in
+      (voteAmong (S .terms .n) (heardProposals (p .proposals) v) K, record { acts = a; made = m })
 
   next-made : (start pre : List Call) (v : ℕ) → suc v ≤ lastView → ActsAfter S cs start (snapshotTwoBeat v) → ActsAfter S cs pre (inputBeat (suc v))
       → (K : Log) → GradeAfter S pre v start K → (L : Log) × MakesAfter S cs pre (inputBeat (suc v)) (logBy (S .own) (suc v) L)
-  unfolding usedAt gradeAt
   next-made start pre v l a b K g =
       let m = grade-some (S .terms .n) (weightOf (S .terms)) (heardLogs (after S pre .heard) v) (votersOf (heardLogs (after S start .heard) v)) K g in
       let s = place-heardAt S cs pre _ (b .place .1) start (snapshotTwoBeat v) a
       (recorded-before S cs start (snapshotTwoBeat v) a pre (inputBeat (suc v)) b (omega arith)) in
-      acts-vote pre (suc v) (m .0) b l (rw s (m .1))
+      acts-vote pre (suc v) (m .0) b l (used-lock S (after S pre) v ∙ rw s (m .1))
 
   first-made : (pre : List Call) → ActsAfter S cs pre (inputBeat 0) → (L : Log) × MakesAfter S cs pre (inputBeat 0) (logBy (S .own) 0 L)
-  unfolding usedAt gradeAt
-  first-made pre a = acts-vote pre 0 [] a (omega arith) refl
+  first-made pre a = acts-vote pre 0 [] a (omega arith) (used-first S (after S pre) voting)
 
 -- ---- decisions
-
--- only at a view's third beat is a log decided, of the view before
-record DecidesAt (S : Seat) (p : History) (v r : ℕ) (L : Log) : Type 0 where
-  row : r ≡ 2
-  view : ℕ
-  next : v ≡ suc view
-  given : gradeWith (S .terms .n) (weightOf (S .terms)) (heardLogs (p .heard) view) (snapshotOf view (heardAt (p .actions) (snapshotOneBeat view))) ≡ some L
-
-decides-at : (S : Seat) (p : History) (v r : ℕ) (L : Log) → decides (seenAt S p v (actAt r)) (actAt r) ≡ some L → DecidesAt S p v r L
-unfolding usedAt gradeAt
-decides-at S p v zero L e = absurd (Option·none-ne-some _ e)
-decides-at S p v (suc zero) L e = absurd (Option·none-ne-some _ e)
-decides-at S p zero (suc (suc zero)) L e = absurd (Option·none-ne-some _ e)
-decides-at S p (suc u) (suc (suc zero)) L e = record { row = refl; view = u; next = refl; given = e }
-decides-at S p v (suc (suc (suc r))) L e = absurd (Option·none-ne-some _ e)
 
 module _ (S : Seat) (cs : List Call) (L : Log) (d : Decides S cs L) where
   abbrev p : History
   p = after S (d .pre)
 
-  decision : DecidesAt S p (viewOf (beatNow p)) (placeIn (beatNow p)) L
-  unfolding decidedBy
-  decision = decides-at S p (viewOf (beatNow p)) (placeIn (beatNow p)) L (d .decided)
+  decided : Decision S p L
+  decided = decision S p L (d .decided)
 
-  closes : d .beat ≡ closeBeat (decision .view)
-  closes = omega (arith, beat-is p (d .beat) (d .acts .beat), decision .row, decision .next)
+  closes : d .beat ≡ closeBeat (decided .view)
+  closes = sym (beat-is p (d .beat) (d .acts .beat)) ∙ decided .beat
 
-  view-low : decision .view ≤ lastView
+  view-low : decided .view ≤ lastView
   view-low =
       let l = act-begun S cs (d .pre) (d .beat) (d .acts) .1 in
       let e = closes in
       omega arith
 
-  decision-graded : GradedAt S cs (d .pre) (decision .view) (snapshotOneBeat (decision .view)) L
-  decision-graded = graded-at S cs (d .pre) _ (d .acts .place .1) (decision .view) (snapshotOneBeat (decision .view)) L (decision .given)
+  decision-graded : GradedAt S cs (d .pre) (decided .view) (snapshotOneBeat (decided .view)) L
+  decision-graded = graded-at S cs (d .pre) _ (d .acts .place .1) (decided .view) (snapshotOneBeat (decided .view)) L (decided .given)
 
 -- ---- the calendar
 
@@ -126,8 +103,8 @@ fourBeats T = record {
   made-lock = λ {own} {b} {k} {cs} {pre} {L} t. made-lock (seatOf T own) cs pre b k L t;
   first-made = λ {own} {cs} {pre} a. first-made (seatOf T own) cs pre a;
   next-made = λ {own} {k} {cs} {start} {pre} l a b K g. next-made (seatOf T own) cs start pre k l a b K g;
-  agreement = λ {own} {cs} {L} d. decision (seatOf T own) cs L d .view;
-  snapshot = λ {own} {cs} {L} d. snapshotOneBeat (decision (seatOf T own) cs L d .view);
+  agreement = λ {own} {cs} {L} d. decided (seatOf T own) cs L d .view;
+  snapshot = λ {own} {cs} {L} d. snapshotOneBeat (decided (seatOf T own) cs L d .view);
   in-range = λ {own} {cs} {L} d. view-low (seatOf T own) cs L d;
   after-input = λ {own} {cs} {L} d. omega arith;
   before-look = λ {own} {cs} {L} d. omega arith;

@@ -2,13 +2,13 @@
 -- Assumes nothing.
 use Prim.Native.Nat.{ℕ, _≤_}
 use native.Mathlib.Omega.{arith}
-use mathlib.Core.Path.{_≡_, refl}
-use mathlib.Core.List.{List, [], _∷_, List·Memᴰ as Mem, List·Memᴰ·head, List·Memᴰ·tail}
-use mathlib.Core.Bool.{true, false≢true}
+use mathlib.Core.Path.{_≡_, refl, ap}
+use mathlib.Core.List.{List, [], _∷_, List·Memᴰ as Mem, List·Memᴰ·head, List·Memᴰ·tail, head-eq-of-cons-eq}
+use mathlib.Core.Bool.{true}
 use lib.Dec.{ltb}
 use lib.ListN.{getD}
-use Rattle.message.specs.Logs.{Log, Conflict, isPrefix}
-use Rattle.message.proofs.LogLaws.{isPrefix-iff, no-conflict-iff}
+use Rattle.message.specs.Logs.{Block, Log, Conflict}
+use Rattle.message.proofs.LogLaws.{prefix-iff, no-conflict-iff}
 use Rattle.agreement.specs.Limits.{mostSenders}
 use Rattle.bench.specs.Calls.{Call, begin, AllTyped}
 use Rattle.bench.specs.History.{after}
@@ -43,7 +43,6 @@ parts-fails W x D N J =
 
 parts : (W : Volume) (i j : ℕ) → W .terms .n ≤ mostSenders → volumeTypedb W ≡ true → Keeps W i → Keeps W j
     → Mem five (decidedIn (after (seat W i) (W .calls i) .actions)) → Mem seven (decidedIn (after (seat W j) (W .calls j) .actions)) → Parts W
-unfolding isPrefix
 parts W i j r t ki kj d e = record {
   range = r;
   typed = volume-typed W t;
@@ -55,7 +54,10 @@ parts W i j r t ki kj d e = record {
   log-other = seven;
   one-decides = mem-decides (seat W i) (W .calls i) five d;
   other-decides = mem-decides (seat W j) (W .calls j) seven e;
-  conflict = (λ h. false≢true (isPrefix-iff five seven .1 h), λ h. false≢true (isPrefix-iff seven five .1 h));
+  conflict = (
+    λ h. let e : _≡_ {A = ℕ} 5 7 = ap (λ (b : Block). b .name) (head-eq-of-cons-eq (prefix-iff five seven .0 h .1)) in omega arith,
+    λ h. let e : _≡_ {A = ℕ} 7 5 = ap (λ (b : Block). b .name) (head-eq-of-cons-eq (prefix-iff seven five .0 h .1)) in omega arith,
+  );
 }
 
 -- ---- without the majority: benches 0 and 1 and a rule-breaker 2. Bench 0 is awake alone in view 0 and decides [5]; when bench 1 wakes, that view's

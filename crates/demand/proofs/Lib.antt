@@ -1,4 +1,4 @@
--- Laws of the definitions in specs/, and the theorems.
+-- Laws of the definitions in specs/, and the theorems. The layers above cite these, and not the definitions' text.
 -- Why no two decided logs conflict, apart from how a bench keeps what it heard:
 pub mod Hearing
 pub mod TwoReadings
@@ -18,6 +18,7 @@ pub mod Votes
 pub mod FourBeats
 pub mod Decided
 -- Demand 3 of a machine, from each bench alone:
+pub mod MachineLaws
 pub mod Reduce
 -- and of the bench:
 pub mod TheDemand

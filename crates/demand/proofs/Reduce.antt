@@ -1,6 +1,6 @@
 -- Demand 3 of a machine, from what each bench does alone; and that from one call at a time. Assumes nothing.
 use Prim.Native.Nat.{ℕ}
-use mathlib.Core.Path.{_≡_, refl, sym, ap, subst, _∙_}
+use mathlib.Core.Path.{_≡_, sym, ap, subst, _∙_}
 use mathlib.Core.List.{List, [], _∷_, _++_}
 use mathlib.Core.Option.{some}
 use mathlib.Core.Bool.{false}
@@ -9,21 +9,18 @@ use Rattle.message.proofs.LogLaws.{no-conflict-iff}
 use Rattle.bench.specs.Terms.{Terms, Seat, seatOf}
 use Rattle.bench.specs.Calls.{Call, begin, State, Typed, AllTyped}
 use Rattle.bench.specs.Acts.{Stand}
-use Rattle.bench.specs.History.{History, fresh, refusal, step, answer, answersFrom, answersTo, afterFrom, after, standIn, stand}
+use Rattle.bench.specs.History.{History, fresh, refusal, step, answer, answersFrom, afterFrom, after, standIn, stand}
 use Rattle.bench.specs.ByRecord.{standing}
+use Rattle.bench.proofs.HistoryLaws.{afterFrom-nil, afterFrom-cons, after-from, answersFrom-nil, answersFrom-cons, answersTo-from, stand-in}
 use Rattle.demand.specs.Places.{Decides, LongestDecided}
 use Rattle.demand.specs.Premises.{Volume, seat, Keeps, Delivery, Numbers, Majority}
 use Rattle.demand.specs.Demand.{Way, Machine, call, Event, callsIn, runs, answers, OpenedAs, OpensRightly, Faithful, Claim, Demand3}
+use Rattle.demand.proofs.MachineLaws.{callsIn-append}
 use Rattle.demand.proofs.Starts.{typed-start}
 use Rattle.demand.proofs.FourBeats.{no-conflict}
 use Rattle.demand.proofs.Decided.{decides-start, stands-longest}
 
 -- ---- agreement follows from what each bench does alone
-
-callsIn-append : (pre post : List Event) → callsIn (pre ++ post) ≡ callsIn pre ++ callsIn post
-unfolding callsIn
-callsIn-append [] post = refl
-callsIn-append (e ∷ es) post = ap (λ (l : List Call). e .what ∷ l) (callsIn-append es post)
 
 agreement : (M : Machine) → Faithful M → (W : Volume) (from : ℕ → State) (events : ℕ → List Event)
     → ((i : ℕ) → Keeps W i → OpenedAs M (W .terms) i (from i))
@@ -69,30 +66,32 @@ pub record Simulation (M : Machine) : Type 1 where
 
 module _ (M : Machine) (I : Simulation M) (S : Seat) where
   sim-answers : (es : List Event) (x : State) (p : History) → I .Rel S x p → AllTyped (callsIn es) → answers M x es ≡ answersFrom S p (callsIn es)
-  unfolding answers answersFrom callsIn
-  sim-answers [] x p r t = refl
+  unfolding answers callsIn
+  sim-answers [] x p r t = sym (answersFrom-nil S p)
   sim-answers (e ∷ es) x p r t =
       let a = I .same-answer S (e .way) x p (e .what) r (t .0) in
       let b = sim-answers es (call M (e .way) x (e .what) .held) (step S p (e .what)) (I .keeps S (e .way) x p (e .what) r (t .0)) (t .1) in
-      λ i. a i ∷ b i
+      (λ i. a i ∷ b i) ∙ sym (answersFrom-cons S p (e .what) (callsIn es))
 
   sim-runs : (es : List Event) (x : State) (p : History) → I .Rel S x p → AllTyped (callsIn es) → I .Rel S (runs M x es) (afterFrom S p (callsIn es))
-  unfolding runs afterFrom callsIn
-  sim-runs [] x p r t = r
+  unfolding runs callsIn
+  sim-runs [] x p r t = subst (I .Rel S x) (sym (afterFrom-nil S p)) r
   sim-runs (e ∷ es) x p r t =
-      sim-runs es (call M (e .way) x (e .what) .held) (step S p (e .what)) (I .keeps S (e .way) x p (e .what) r (t .0)) (t .1)
+      subst (I .Rel S (runs M x (e ∷ es))) (sym (afterFrom-cons S p (e .what) (callsIn es)))
+      (sim-runs es (call M (e .way) x (e .what) .held) (step S p (e .what)) (I .keeps S (e .way) x p (e .what) r (t .0)) (t .1))
 
   -- the relation holds all along
   sim-all : (es : List Event) (x : State) → I .Rel S x (fresh S) → AllTyped (callsIn es) → I .Rel S (runs M x es) (after S (callsIn es))
-  unfolding after
-  sim-all es x o t = sim-runs es x (fresh S) o t
+  sim-all es x o t = subst (I .Rel S (runs M x es)) (sym (after-from S (callsIn es))) (sim-runs es x (fresh S) o t)
 
 pub faithful : (M : Machine) → Simulation M → Faithful M
-unfolding answersTo stand
 faithful M I = record {
   opens = I .rightly;
-  answered = λ T own x es o t. sim-answers M I (seatOf T own) es x (fresh (seatOf T own)) (I .opens T own x o) t;
-  stood = λ T own x es o t. I .same-standing (seatOf T own) (runs M x es) (after (seatOf T own) (callsIn es)) (sim-all M I (seatOf T own) es x (I .opens T own x o) t);
+  answered = λ T own x es o t.
+      sim-answers M I (seatOf T own) es x (fresh (seatOf T own)) (I .opens T own x o) t ∙ sym (answersTo-from (seatOf T own) (callsIn es));
+  stood = λ T own x es o t.
+      I .same-standing (seatOf T own) (runs M x es) (after (seatOf T own) (callsIn es)) (sim-all M I (seatOf T own) es x (I .opens T own x o) t)
+      ∙ sym (stand-in (seatOf T own) (callsIn es));
   refusals = λ T own x es w c k o t y e.
       I .refusals (seatOf T own) w (runs M x es) (after (seatOf T own) (callsIn es)) c k (sim-all M I (seatOf T own) es x (I .opens T own x o) t) y e;
   begins = λ T own x es w b o t y.

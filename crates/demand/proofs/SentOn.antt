@@ -14,11 +14,12 @@ use Rattle.message.specs.Message.{Content, Meaning, logMessage, proposalMessage
 use Rattle.agreement.specs.Filing.{first, second}
 use Rattle.agreement.specs.Kept.{wordOn}
 use Rattle.agreement.specs.Heard.{logsFrom, heardLogs}
+use Rattle.agreement.proofs.KeptOfLaws.{logsFrom-nil, logsFrom-cons}
 use Rattle.agreement.proofs.SenderLaws.{Status, no-log, status-add, status-map}
 use Rattle.bench.specs.Terms.{Seat}
 use Rattle.bench.specs.Calls.{Call, begin, receive, act, took}
 use Rattle.bench.specs.History.{History, refusal, file, fileMade, closed, accepted, madeBy, decidedBy, after, wordFor}
-use Rattle.bench.proofs.CallLaws.{act-ok, receive-ok, taken-reply, accepted-receive, accepted-act}
+use Rattle.bench.proofs.CallLaws.{act-ok, receive-ok, taken-reply, word-log, log-heard, proposal-heard, accepted-begin, accepted-receive, accepted-act}
 use Rattle.demand.specs.Places.{At, MakesAfter, TakesAfter, PassedOn, Sends, sendsMade, sendsOn}
 use Rattle.demand.proofs.Starts.{along}
 use Rattle.demand.proofs.Beats.{UpTo, upTo-now, upTo-step, has-beat}
@@ -52,15 +53,14 @@ module _ (S : Seat) (cs : List Call) (v s : ℕ) where
   -- the word on a LOG is the word on its sender's logs
   fresh-word : (p : History) (h : Content) → h .view ≡ v → h .sender ≡ s
       → (wordOn sameLog (heardLogs (p .heard) v s) (h .log) ≡ first) ⊎ (wordOn sameLog (heardLogs (p .heard) v s) (h .log) ≡ second) → Fresh p h
-  unfolding wordFor
-  fresh-word p h ev es w = rw (ev, es) w
+  fresh-word p h ev es w = rw (word-log p h, ev, es) w
 
   -- a call that adds the LOG h, which is sent on where it is fresh
   sound-more : (p : History) (c : Call) → refusal S p c ≡ none → Sound p → (h : Content) → accepted S p c .heard ≡ h ∷ p .heard
       → (Fresh p h → SentBy S cs (accepted S p c) h) → Sound (accepted S p c)
-  unfolding logsFrom
   sound-more p c ok g h e sent =
-      subst (λ (l : List Content). Status (SentLog q) (logsFrom l v s)) (sym e) (go (eqb (h .view) v && eqb (h .sender) s) refl)
+      subst (Status (SentLog q)) (sym (ap (λ (l : List Content). logsFrom l v s) e ∙ logsFrom-cons h (p .heard) v s))
+      (go (eqb (h .view) v && eqb (h .sender) s) refl)
     where
       q : History
       q = accepted S p c
@@ -81,7 +81,6 @@ module _ (S : Seat) (cs : List Call) (v s : ℕ) where
 
   sound-receive : (pre : List Call) (bytes : List ℕ) → At cs pre (receive bytes) → refusal S (after S pre) (receive bytes) ≡ none
       → Sound (after S pre) → Sound (accepted S (after S pre) (receive bytes))
-  unfolding file
   sound-receive pre bytes at ok g = let r = receive-ok S (after S pre) bytes ok in go (r .message) (r .read) (r .gathering)
     where
       p : History
@@ -95,11 +94,11 @@ module _ (S : Seat) (cs : List Call) (v s : ℕ) where
       heardIs m e = ap (λ (x : History). x .heard) (accepted-receive S p bytes m e)
 
       go : (m : Meaning) → readOf (S .terms .n) bytes ≡ means m → p .gathering ≡ true → Sound (accepted S p (receive bytes))
-      go (proposalMessage h k) e gath = sound-same p (receive bytes) ok g (heardIs (proposalMessage h k) e)
+      go (proposalMessage h k) e gath = sound-same p (receive bytes) ok g (heardIs (proposalMessage h k) e ∙ proposal-heard p h k)
       go (logMessage h) e gath =
           let b = has-beat S pre gath in
           let t : TakesAfter S cs pre (b .0) h = record { bytes = bytes; place = at; ok = ok; beat = b .1; read = e } in
-          sound-more p (receive bytes) ok g h (heardIs (logMessage h) e) (λ w. record {
+          sound-more p (receive bytes) ok g h (heardIs (logMessage h) e ∙ log-heard p h) (λ w. record {
             beat = b .0;
             sends = sendsOn pre t (answered h e w);
             upTo = upTo-step S p (b .0) (receive bytes) ok (upTo-now p (b .0) (b .1));
@@ -107,23 +106,24 @@ module _ (S : Seat) (cs : List Call) (v s : ℕ) where
 
   sound-act : (pre : List Call) (x : Block) (r : ℕ) (o : List ℕ) → At cs pre (act x r o) → refusal S (after S pre) (act x r o) ≡ none
       → Sound (after S pre) → Sound (accepted S (after S pre) (act x r o))
-  unfolding file
   sound-act pre x r o at ok g = go (madeBy S p x r) refl
     where
       p : History
       p = after S pre
 
-      heardIs : (m : Option Meaning) → madeBy S p x r ≡ m
-          → accepted S p (act x r o) .heard ≡ fileMade (closed p (madeBy S p x r) (decidedBy S p)) m .heard
-      heardIs m e = ap (λ (y : History). y .heard) (accepted-act S p x r o ∙ ap (fileMade (closed p (madeBy S p x r) (decidedBy S p))) e)
+      shut : History
+      shut = closed p (madeBy S p x r) (decidedBy S p)
+
+      heardIs : (m : Option Meaning) → madeBy S p x r ≡ m → accepted S p (act x r o) .heard ≡ fileMade shut m .heard
+      heardIs m e = ap (λ (y : History). y .heard) (accepted-act S p x r o ∙ ap (fileMade shut) e)
 
       go : (m : Option Meaning) → madeBy S p x r ≡ m → Sound (accepted S p (act x r o))
       go none e = sound-same p (act x r o) ok g (heardIs none e)
-      go (some (proposalMessage h k)) e = sound-same p (act x r o) ok g (heardIs (some (proposalMessage h k)) e)
+      go (some (proposalMessage h k)) e = sound-same p (act x r o) ok g (heardIs (some (proposalMessage h k)) e ∙ proposal-heard shut h k)
       go (some (logMessage h)) e =
           let b = has-beat S pre (act-ok S p x r o ok .1) in
           let t : MakesAfter S cs pre (b .0) h = record { acts = record { block = x; priority = r; out = o; place = at; ok = ok; beat = b .1 }; made = e } in
-          sound-more p (act x r o) ok g h (heardIs (some (logMessage h)) e) (λ w. record {
+          sound-more p (act x r o) ok g h (heardIs (some (logMessage h)) e ∙ log-heard shut h) (λ w. record {
             beat = b .0;
             sends = sendsMade pre t;
             upTo = upTo-step S p (b .0) (act x r o) ok (upTo-now p (b .0) (b .1));
@@ -131,12 +131,11 @@ module _ (S : Seat) (cs : List Call) (v s : ℕ) where
 
   sound-step : (pre : List Call) (c : Call) → At cs pre c → refusal S (after S pre) c ≡ none
       → Sound (after S pre) → Sound (accepted S (after S pre) c)
-  unfolding accepted
-  sound-step pre (begin b) at ok g = sound-same (after S pre) (begin b) ok g refl
+  sound-step pre (begin b) at ok g =
+      sound-same (after S pre) (begin b) ok g (ap (λ (q : History). q .heard) (accepted-begin S (after S pre) b))
   sound-step pre (receive bytes) at ok g = sound-receive pre bytes at ok g
   sound-step pre (act x r o) at ok g = sound-act pre x r o at ok g
 
   -- After any start of the list a sender's LOGs of a view are none, or one log that was sent on, or more than one, and two different ones were.
   pub sent-status : (pre post : List Call) → cs ≡ pre ++ post → Status (SentLog (after S pre)) (logsFrom (after S pre .heard) v s)
-  unfolding logsFrom
-  sent-status = along S cs Sound (no-log refl) sound-step
+  sent-status = along S cs Sound (no-log (logsFrom-nil v s)) sound-step

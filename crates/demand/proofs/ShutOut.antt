@@ -1,23 +1,27 @@
 -- What demand 3 shuts out: facts of every machine that meets it, without premises. Assumes nothing.
 use Prim.Native.Nat.{ℕ, zero, suc, _^_, _≤_, _<_}
 use native.Mathlib.Omega.{arith}
-use mathlib.Core.Path.{_≡_, refl, sym, ap, subst, _∙_}
+use mathlib.Core.Path.{_≡_, sym, ap, subst, _∙_}
 use mathlib.Core.List.{List, [], _∷_}
 use mathlib.Core.Option.{none}
 use lib.ListN.{length, length-replicate, replicate, getD}
 use borrow.Author.Tests.{ne-eqb, le-ltb, lt-leb}
-use Rattle.message.specs.Numbers.{AllBelow, part}
-use Rattle.message.specs.Logs.{Log, inStep}
+use Rattle.message.specs.Logs.{Log}
 use Rattle.message.specs.Store.{logAt}
+use Rattle.message.proofs.PartLaws.{zeros-below}
+use Rattle.message.proofs.ListedLaws.{log-step, log-empty}
 use Rattle.agreement.specs.Limits.{mostSenders}
 use Rattle.bench.specs.Terms.{Terms, seatOf}
 use Rattle.bench.specs.Layout.{Lent, leastLent, decidedPlace}
 use Rattle.bench.specs.Calendar.{lastBeat}
-use Rattle.bench.specs.Calls.{Call, begin, Reply, done, Answer, AllTyped, TypedOpen, State}
+use Rattle.bench.specs.Calls.{begin, Reply, done, Answer, AllTyped, TypedOpen, State}
 use Rattle.bench.specs.Acts.{Stand}
-use Rattle.bench.specs.History.{fresh, openRefusal, refusal, answer, acceptedAnswer, answersFrom, answersTo, stand}
+use Rattle.bench.specs.History.{fresh, openRefusal, refusal, answer, stand}
 use Rattle.bench.specs.ByRecord.{standing}
-use Rattle.demand.specs.Demand.{Way, byValue, Machine, call, OpenedAs, Event, callsIn, runs, answers, Demand3}
+use Rattle.bench.proofs.CallLaws.{begun-reply}
+use Rattle.bench.proofs.HistoryLaws.{answersTo-from, answersFrom-cons}
+use Rattle.demand.specs.Demand.{Way, Machine, call, OpenedAs, Event, callsIn, runs, answers, Demand3}
+use Rattle.demand.proofs.MachineLaws.{byValues, calls-byValues}
 use Rattle.demand.proofs.Witness.{four, fiveSix, bench0, keep0, unmarked, stands, typed}
 
 -- ---- by the history
@@ -30,8 +34,8 @@ opens-unrefused T own l a b c d e =
     rw (ne-eqb (T .n) 0 (λ z. omega arith), le-ltb mostSenders (T .n) b, lt-leb (T .n) own c, le-ltb (length (l .names)) leastLent d, le-ltb (length (l .counts)) leastLent e)
 
 begin-fresh : (T : Terms) (own b : ℕ) → b ≤ lastBeat → answer (seatOf T own) (fresh (seatOf T own)) (begin b) .reply ≡ done
-unfolding answer refusal acceptedAnswer
-begin-fresh T own b l = rw (le-ltb lastBeat b l)
+unfolding refusal
+begin-fresh T own b l = begun-reply (seatOf T own) (fresh (seatOf T own)) b (rw (le-ltb lastBeat b l))
 
 abbrev firstReply : List Answer → Reply
 firstReply [] = done
@@ -43,19 +47,14 @@ nameFirst (b ∷ L) = b .name
 
 -- the first block that stands has its name in the list
 first-name : (names counts : List ℕ) (a k : ℕ) (b : ℕ) → 0 < b → nameFirst (logAt names counts a k) ≡ b → getD names a 0 ≡ b
-unfolding logAt part inStep
-first-name names counts a zero b l e = absurd (omega arith)
-first-name names counts a (suc k) b l e = e
+first-name names counts a zero b l e =
+    let z : 0 ≡ b = ap nameFirst (sym (log-empty names counts a 0 (omega arith))) ∙ e in absurd (omega arith)
+first-name names counts a (suc k) b l e = ap nameFirst (sym (log-step names counts a (suc k) (omega arith))) ∙ e
 
--- ---- lists of zeros, and a list of calls by value
+-- ---- lists of zeros
 
 abbrev pub zeros : ℕ → Lent
 zeros k = record { names = replicate k 0; counts = replicate k 0 }
-
-zeros-below : (k B : ℕ) → 0 < B → AllBelow B (replicate k 0)
-zeros-below zero B l i = l
-zeros-below (suc k) B l zero = l
-zeros-below (suc k) B l (suc i) = zeros-below k B l i
 
 zeros-fit : (k : ℕ) → k ≤ 2 ^ 32 → TypedOpen 4 0 (zeros k)
 zeros-fit k l =
@@ -63,18 +62,9 @@ zeros-fit k l =
     record {
       n-fits = omega arith;
       own-fits = omega arith;
-      names = (zeros-below k (2 ^ 64) (omega arith), omega arith);
-      counts = (zeros-below k (2 ^ 16) (omega arith), omega arith);
+      names = (zeros-below (2 ^ 64) k (omega arith), omega arith);
+      counts = (zeros-below (2 ^ 16) k (omega arith), omega arith);
     }
-
-abbrev pub byValues : List Call → List Event
-byValues [] = []
-byValues (c ∷ cs) = record { way = byValue; what = c } ∷ byValues cs
-
-calls-byValues : (cs : List Call) → callsIn (byValues cs) ≡ cs
-unfolding callsIn
-calls-byValues [] = refl
-calls-byValues (c ∷ cs) = ap (λ (l : List Call). c ∷ l) (calls-byValues cs)
 
 -- ---- of every machine that meets demand 3
 
@@ -90,9 +80,13 @@ module _ (M : Machine) (D : Demand3 M) where
   -- Not one that refuses to begin: a fresh bench begins every beat up to the last.
   pub begins-any : (T : Terms) (own : ℕ) (x : State) (w : Way) (b : ℕ) → OpenedAs M T own x → b ≤ lastBeat
       → call M w x (begin b) .answer .reply ≡ done
-  unfolding answers answersTo answersFrom callsIn
+  unfolding answers callsIn
   begins-any T own x w b o l =
-      ap firstReply (D .alone .answered T own x (record { way = w; what = begin b } ∷ []) o (omega arith, tt)) ∙ begin-fresh T own b l
+      let S = seatOf T own in
+      ap firstReply
+      (D .alone .answered T own x (record { way = w; what = begin b } ∷ []) o (omega arith, tt)
+      ∙ answersTo-from S (begin b ∷ []) ∙ answersFrom-cons S (fresh S) (begin b) [])
+      ∙ begin-fresh T own b l
 
   -- Not one that never decides, votes the empty log only, forgets after view 0 or invents a count: whoever goes through bench 0's calls of the
   -- witness, by value or on a lent record, ends with [5,6], of 3 and 0 entries, standing at its place in the lent lists, and no mark.
@@ -113,6 +107,6 @@ module _ (M : Machine) (D : Demand3 M) where
   pub zeros-written : runs M (record { bench = M .open′ four 0 (zeros leastLent) .bench; lent = zeros leastLent }) (byValues bench0) .lent ≡ zeros leastLent → ⊥
   zeros-written =
       let e = length-replicate {A = ℕ} leastLent 0 in
-      let z = zeros-below leastLent 5 (omega arith) decidedPlace in
+      let z = zeros-below 5 leastLent (omega arith) decidedPlace in
       let o = opens-benches four 0 (zeros leastLent) (zeros-fit leastLent (omega arith)) (omega arith) (omega arith) (omega arith) (omega arith) (omega arith) in
       lists-written _ (byValues bench0) o (calls-byValues bench0) (λ q. omega arith)

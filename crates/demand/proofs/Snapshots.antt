@@ -1,12 +1,13 @@
 -- A grade that an act reads with a snapshot: the snapshot has its act, and the log given is the longest of that reading. Assumes nothing.
 use Prim.Native.Nat.{ℕ}
-use mathlib.Core.Path.{_≡_, refl, subst}
+use mathlib.Core.Path.{_≡_, refl, sym, subst, _∙_}
 use mathlib.Core.List.{List, _++_}
 use mathlib.Core.Option.{Option, some, none, Option·none-ne-some}
 use Rattle.message.specs.Logs.{Log}
 use Rattle.message.specs.Message.{Content}
 use Rattle.agreement.specs.Reading.{LongestLog}
 use Rattle.agreement.specs.Heard.{heardLogs, votersOf, readingFrom, gradeWith}
+use Rattle.agreement.proofs.GradeSources.{gradeWith-none}
 use Rattle.agreement.proofs.SenderLaws.{grade-longest}
 use Rattle.bench.specs.Terms.{Seat, weightOf}
 use Rattle.bench.specs.Calls.{Call}
@@ -28,12 +29,12 @@ module _ (S : Seat) (cs : List Call) where
 
   pub graded-at : (pre post : List Call) → cs ≡ pre ++ post → (u s : ℕ) (L : Log)
       → gradeWith (S .terms .n) (weightOf (S .terms)) (heardLogs (after S pre .heard) u) (snapshotOf u (heardAt (after S pre .actions) s)) ≡ some L → GradedAt pre u s L
-  unfolding gradeWith
   graded-at pre post e u s L q = go (heardAt (after S pre .actions) s) refl q
     where
       go : (o : Option (List Content)) → heardAt (after S pre .actions) s ≡ o
           → gradeWith (S .terms .n) (weightOf (S .terms)) (heardLogs (after S pre .heard) u) (snapshotOf u o) ≡ some L → GradedAt pre u s L
-      go none f g = absurd (Option·none-ne-some _ g)
+      go none f g =
+          absurd (Option·none-ne-some _ (sym (gradeWith-none (S .terms .n) (weightOf (S .terms)) (heardLogs (after S pre .heard) u)) ∙ g))
       go (some l) f g =
           let z = heardAt-place S cs pre post e s l f in
           let y = grade-longest (S .terms .n) (weightOf (S .terms)) (heardLogs (after S pre .heard) u) (votersOf (heardLogs l u)) L g in

@@ -1,12 +1,13 @@
 -- The history after any start of a list of calls: the induction along the list that the other laws use. Assumes nothing.
-use mathlib.Core.Path.{_≡_, refl, sym, subst, _∙_}
+use mathlib.Core.Path.{_≡_, sym, subst, _∙_}
 use mathlib.Core.Logic.{inl, inr}
 use mathlib.Core.List.{List, [], _∷_, _++_, append-nil, append-assoc}
 use mathlib.Core.Option.{none}
 use Rattle.bench.specs.Terms.{Seat}
 use Rattle.bench.specs.Calls.{Call, Typed, AllTyped}
-use Rattle.bench.specs.History.{History, fresh, refusal, accepted, step, after, afterFrom}
-use Rattle.bench.proofs.CallLaws.{step-cases, step-ok}
+use Rattle.bench.specs.History.{History, fresh, refusal, accepted, after}
+use Rattle.bench.proofs.CallLaws.{step-cases}
+use Rattle.bench.proofs.HistoryLaws.{after-nil, after-snoc}
 use Rattle.demand.specs.Places.{At}
 
 -- a list of calls, built from its first call on
@@ -18,36 +19,18 @@ snoc-ind P z s cs = go [] z cs
     go pre h (c ∷ rest) = subst P (append-assoc pre (c ∷ []) rest) (go (pre ++ (c ∷ [])) (s pre c h) rest)
 
 module _ (S : Seat) where
-  afterFrom-append : (p : History) (xs ys : List Call) → afterFrom S p (xs ++ ys) ≡ afterFrom S (afterFrom S p xs) ys
-  unfolding afterFrom
-  afterFrom-append p [] ys = refl
-  afterFrom-append p (x ∷ xs) ys = afterFrom-append (step S p x) xs ys
-
-  pub after-append : (xs ys : List Call) → after S (xs ++ ys) ≡ afterFrom S (after S xs) ys
-  unfolding after
-  after-append xs ys = afterFrom-append (fresh S) xs ys
-
-  -- after one call more
-  pub after-snoc : (pre : List Call) (c : Call) → after S (pre ++ (c ∷ [])) ≡ step S (after S pre) c
-  unfolding afterFrom
-  after-snoc pre c = after-append pre (c ∷ [])
-
-  pub after-ok : (pre : List Call) (c : Call) → refusal S (after S pre) c ≡ none → after S (pre ++ (c ∷ [])) ≡ accepted S (after S pre) c
-  after-ok pre c ok = after-snoc pre c ∙ step-ok S (after S pre) c ok
-
   -- What holds at the start, and is kept by each accepted call of the list, holds after every start of the list.
   pub along : (cs : List Call) (P : History → Type 0)
       → P (fresh S)
       → ((pre : List Call) (c : Call) → At cs pre c → refusal S (after S pre) c ≡ none → P (after S pre) → P (accepted S (after S pre) c))
       → (pre post : List Call) → cs ≡ pre ++ post → P (after S pre)
-  unfolding after afterFrom
   along cs P z s =
       snoc-ind (λ (pre : List Call). (post : List Call) → cs ≡ pre ++ post → P (after S pre))
-      (λ post e. z)
+      (λ post e. subst P (sym (after-nil S)) z)
       (λ pre c ih post e.
       let e′ : cs ≡ pre ++ (c ∷ post) = e ∙ append-assoc pre (c ∷ []) post in
       let h : P (after S pre) = ih (c ∷ post) e′ in
-      subst P (sym (after-snoc pre c))
+      subst P (sym (after-snoc S pre c))
       (elim (step-cases S (after S pre) c) [
         | inl same ↦ subst P (sym same) h
         | inr ok ↦ subst P (sym (ok .1)) (s pre c (post, e′) (ok .0) h)

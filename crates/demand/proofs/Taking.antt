@@ -3,8 +3,7 @@
 use Prim.Native.Nat.{ℕ, _≤_, _<_}
 use native.Mathlib.Omega.{arith}
 use mathlib.Core.Path.{_≡_, sym, ap, subst, _∙_}
-use mathlib.Core.Logic.{inl, inr}
-use mathlib.Core.List.{List, [], _∷_, _++_, append-assoc, List·Memᴰ as Mem}
+use mathlib.Core.List.{List, _∷_, _++_, append-assoc, List·Memᴰ as Mem}
 use mathlib.Core.Option.{some, none, Option·some-injective}
 use mathlib.Core.Bool.{true, false≢true, and-eq-true-iff}
 use borrow.Author.Tests.{leb-true}
@@ -12,10 +11,11 @@ use Rattle.message.specs.Message.{Content, logMessage}
 use Rattle.bench.specs.Terms.{Seat}
 use Rattle.bench.specs.Calendar.{lastBeat, inputBeat, closeBeat}
 use Rattle.bench.specs.Calls.{Call, begin, receive, act}
-use Rattle.bench.specs.History.{History, beatNow, refusal, accepted, step, after, afterFrom}
-use Rattle.bench.proofs.CallLaws.{step-cases, begin-ok, act-ok, receive-ok, receive-open, receive-refusal}
+use Rattle.bench.specs.History.{History, beatNow, refusal, accepted, after, afterFrom}
+use Rattle.bench.proofs.CallLaws.{accepted-begin, begin-ok, act-ok, receive-ok, receive-open, receive-refusal}
+use Rattle.bench.proofs.HistoryLaws.{afterFrom-keeps, after-append}
 use Rattle.demand.specs.Places.{At, Begins, ActsAfter, MakesAfter, TakesAfter, With}
-use Rattle.demand.proofs.Starts.{after-append, along}
+use Rattle.demand.proofs.Starts.{along}
 use Rattle.demand.proofs.Beats.{UpTo, upTo-now, upTo-le, upTo-step, receive-last, act-gathering, beat-is, has-beat}
 use Rattle.demand.proofs.HeardFrom.{taken, made, heard-from, taken-heard, made-heard-later}
 
@@ -50,12 +50,7 @@ module _ (S : Seat) (cs : List Call) where
   -- ---- the last begun beat does not fall, and was begun
 
   pub upTo-from : (p : History) (ys : List Call) (b : ℕ) → UpTo p b → UpTo (afterFrom S p ys) b
-  unfolding afterFrom
-  upTo-from p [] b u = u
-  upTo-from p (y ∷ ys) b u = upTo-from (step S p y) ys b (elim (step-cases S p y) [
-    | inl e ↦ subst (λ (q : History). UpTo q b) (sym e) u
-    | inr e ↦ subst (λ (q : History). UpTo q b) (sym (e .1)) (upTo-step S p b y (e .0) u)
-  ])
+  upTo-from p ys b u = afterFrom-keeps S (λ (q : History). UpTo q b) (λ q c ok w. upTo-step S q b c ok w) p ys u
 
   last-grows : (xs ys : List Call) (b c : ℕ) → after S xs .last ≡ some b → after S (xs ++ ys) .last ≡ some c → b ≤ c
   last-grows xs ys b c e f =
@@ -87,9 +82,8 @@ module _ (S : Seat) (cs : List Call) where
 
   lastBegun-step : (pre : List Call) (c : Call) → At cs pre c → refusal S (after S pre) c ≡ none → LastBegun (after S pre)
       → LastBegun (accepted S (after S pre) c)
-  unfolding accepted
   lastBegun-step pre (begin b) at ok h g c e =
-      let q : b ≡ c = Option·some-injective _ _ e in
+      let q : b ≡ c = Option·some-injective _ _ (sym (ap (λ (x : History). x .last) (accepted-begin S (after S pre) b)) ∙ e) in
       let l = begin-ok S (after S pre) b ok .0 in
       (subst (Begins S cs) q (record { pre = pre; place = at; ok = ok }), omega arith)
   lastBegun-step pre (receive bytes) at ok h g c e =
