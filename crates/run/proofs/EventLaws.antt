@@ -25,6 +25,7 @@ use Rattle.bench.specs.declared.Taken.{Taken}
 use Rattle.bench.specs.declared.Taken.the-variants as takings
 use Rattle.bench.specs.declared.Made.{Made}
 use Rattle.bench.specs.declared.Made.the-variants as makings
+use Rattle.bench.proofs.Replies.{start-done, start-refused, taken-first, taken-second, taken-known, taken-refused, made-nothing, made-log, made-proposal, made-refused}
 use Rattle.run.specs.declared.Answered.{Answered}
 use Rattle.run.specs.declared.Answered.the-variants as answers
 use Rattle.run.specs.declared.Offer.{Offer}
@@ -38,16 +39,17 @@ use Rattle.run.proofs.TextLaws.{puts-then}
 -- ---- the line of a call, by the code's answer
 
 start-line : (a : Start) (t : Step) (beat : ℕ) → startReply a ≡ t .answer .reply → ascii "begin " ++ (decimal beat ++ startText a) ≡ lineOf (begin beat) t
-unfolding lineFor replyText startText startReply endText
-start-line starts.Done t beat e = rw (← e) (sym (append-assoc (ascii "begin ") (decimal beat) (ascii " ok\n")))
-start-line (starts.Refused k) t beat e = rw (← e) (sym (append-assoc (ascii "begin ") (decimal beat) (endText (decimal k))))
+unfolding lineFor replyText startText endText
+start-line starts.Done t beat e = rw (← e, start-done) (sym (append-assoc (ascii "begin ") (decimal beat) (ascii " ok\n")))
+start-line (starts.Refused k) t beat e =
+    rw (← e, start-refused k) (sym (append-assoc (ascii "begin ") (decimal beat) (endText (decimal k))))
 
 taken-line : (a : Taken) (t : Step) (bytes : List ℕ) → takenReply a ≡ t .answer .reply → takenText a ≡ lineOf (receive bytes) t
-unfolding lineFor replyText takenText takenReply endText
-taken-line takings.First t bytes e = rw (← e)
-taken-line takings.Second t bytes e = rw (← e)
-taken-line takings.Known t bytes e = rw (← e)
-taken-line (takings.Refused k) t bytes e = rw (← e)
+unfolding lineFor replyText takenText endText
+taken-line takings.First t bytes e = rw (← e, taken-first)
+taken-line takings.Second t bytes e = rw (← e, taken-second)
+taken-line takings.Known t bytes e = rw (← e, taken-known)
+taken-line (takings.Refused k) t bytes e = rw (← e, taken-refused k)
 
 stand-end : (xs : List ℕ) (d : ℕ) (parted : Bool) → xs ++ standText d parted ≡ (xs ++ (ascii " " ++ (decimal d ++ markText parted))) ++ ascii "\n"
 unfolding standText
@@ -55,16 +57,17 @@ stand-end xs d parted = simp append-assoc
 
 acted-line : (a : Made) (t : Step) (block : Block) (priority : ℕ) (buffer out : List ℕ) → madeReply out a ≡ t .answer .reply
     → actedText (t .held .bench .decided) (isYes (t .held .bench .parted)) a ≡ lineOf (act block priority buffer) t
-unfolding lineFor replyText actedText madeReply madeText endText
+unfolding lineFor replyText actedText madeText endText
 acted-line makings.Nothing t block priority buffer out e =
-    rw (← e) (ap (λ (l : List ℕ). ascii "act " ++ l) (stand-end (ascii "none 0") (t .held .bench .decided) (isYes (t .held .bench .parted))))
+    rw (← e, made-nothing out)
+    (ap (λ (l : List ℕ). ascii "act " ++ l) (stand-end (ascii "none 0") (t .held .bench .decided) (isYes (t .held .bench .parted))))
 acted-line (makings.Log k) t block priority buffer out e =
-    rw (← e, length-blocks out k)
+    rw (← e, made-log out k, length-blocks out k)
     (ap (λ (l : List ℕ). ascii "act log " ++ l) (stand-end (decimal k) (t .held .bench .decided) (isYes (t .held .bench .parted))))
 acted-line (makings.Proposal k) t block priority buffer out e =
-    rw (← e, length-blocks out k)
+    rw (← e, made-proposal out k, length-blocks out k)
     (ap (λ (l : List ℕ). ascii "act proposal " ++ l) (stand-end (decimal k) (t .held .bench .decided) (isYes (t .held .bench .parted))))
-acted-line (makings.Refused k) t block priority buffer out e = rw (← e)
+acted-line (makings.Refused k) t block priority buffer out e = rw (← e, made-refused out k)
 
 -- ---- event i, by its kind
 
@@ -168,12 +171,10 @@ is-not false false e = refl
 
 module _ (s : List ℕ) (l : Lent) (r : Start) (b : Bench) (ns cs : List ℕ) (g : OpenGives (openingOf s l) l r b ns cs) where
   pub is-open : r ≡ starts.Done → false ≡ openRefuses s l
-  unfolding startReply
-  is-open e = let d : done ≡ openingOf s l .reply = rw e at (g .answered) in rw (← d)
+  is-open e = let d : done ≡ openingOf s l .reply = sym start-done ∙ ap startReply (sym e) ∙ g .answered in rw (← d)
 
   pub is-shut : (k : ℕ) → r ≡ starts.Refused k → true ≡ openRefuses s l
-  unfolding startReply
-  is-shut k e = let d : refused k ≡ openingOf s l .reply = rw e at (g .answered) in rw (← d)
+  is-shut k e = let d : refused k ≡ openingOf s l .reply = sym (start-refused k) ∙ ap startReply (sym e) ∙ g .answered in rw (← d)
 
   pub opens : b ≡ openingOf s l .bench
   opens = g .bench

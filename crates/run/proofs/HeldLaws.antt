@@ -6,14 +6,15 @@ use mathlib.Core.List.{List, [], _∷_, _++_, append-assoc}
 use mathlib.Core.Path.{_≡_, refl, sym, ap, _∙_}
 use lib.ListN.{length, length-append}
 use Rattle.message.specs.Numbers.{put}
-use Rattle.message.proofs.PartLaws.{put-append}
+use Rattle.message.proofs.PartLaws.{put-nil, put-append}
 use Rattle.agreement.specs.Sets.{isYes}
 use Rattle.bench.specs.Calls.{Call, State}
 use Rattle.bench.specs.Answers.{heldWith}
 use Rattle.calls.specs.Steps.{Leaves}
 use Rattle.bench.specs.Record.{Bench}
+use Rattle.demand.proofs.MachineLaws.{runs-nil, runs-cons, byValues}
 use Rattle.run.specs.declared.Answered.{Answered}
-use Rattle.demand.specs.Demand.{byValue, Event, runs}
+use Rattle.demand.specs.Demand.{byValue, runs}
 use Rattle.demand.specs.TheBench.{theBench}
 use Rattle.run.specs.Roll.{mostRoll, mostEvents, eventsOf, lengthAt, bodiesPlace, misfits, callAt, callsFrom}
 use Rattle.run.specs.RollText.{lineOf, stepOf, linesOf}
@@ -89,9 +90,8 @@ leaves-state y b ns cs f = rw (f .bench, f .nameList, f .countList)
 
 -- nothing is left to write
 remains-none : (xs : List ℕ) (at : ℕ) (before text : List ℕ) (p : ℕ) (prints : Bool) → Remains (put before at xs) (at + length xs) text p (told prints []) → Puts xs at before p text
-unfolding put
-remains-none xs at before text p true f = record { place = omega (arith, f .place); text = sym (f .whole) }
-remains-none xs at before text p false f = record { place = omega (arith, f .place); text = sym (f .whole) }
+remains-none xs at before text p true f = record { place = omega (arith, f .place); text = sym (f .whole ∙ put-nil text p) }
+remains-none xs at before text p false f = record { place = omega (arith, f .place); text = sym (f .whole ∙ put-nil text p) }
 
 module _ (prints : Bool) (s : List ℕ) (k : ℕ) (x : State) (at : ℕ) (before : List ℕ) where
   pub ahead-start : (e : ℕ) → e ≡ eventsOf s → Ahead prints s k x at before 0 (4 + 4 * e) x at before
@@ -132,8 +132,7 @@ module _ (prints : Bool) (s : List ℕ) (k : ℕ) (x : State) (at : ℕ) (before
 
 -- no lines were asked for: nothing is written
 pub silent : (s : List ℕ) (k : ℕ) (x : State) (before : List ℕ) (b : Bench) (r : ℕ) (ns cs after : List ℕ) → Runs false s k x 0 before b r ns cs after → after ≡ before
-unfolding put
-silent s k x before b r ns cs after f = f .lines .text
+silent s k x before b r ns cs after f = f .lines .text ∙ put-nil before 0
 
 -- ---- where a body starts
 
@@ -173,12 +172,7 @@ calls-after s i a (suc k) m =
     let f : i + suc k ≡ i + 1 + k = omega arith in
     rw (e, f) (ap (λ (l : List Call). callAt s i a ∷ l) (calls-after s (i + 1) (a + lengthAt s i) k m))
 
--- a list of calls by value
-abbrev pub byValues : List Call → List Event
-byValues [] = []
-byValues (c ∷ cs) = record { way = byValue; what = c } ∷ byValues cs
-
 pub held-runs : (x : State) (cs : List Call) → heldAfter x cs ≡ runs theBench x (byValues cs)
-unfolding heldAfter runs
-held-runs x [] = refl
-held-runs x (c ∷ cs) = held-runs (stepOf x c .held) cs
+unfolding heldAfter
+held-runs x [] = sym (runs-nil theBench x)
+held-runs x (c ∷ cs) = held-runs (stepOf x c .held) cs ∙ sym (runs-cons theBench x (record { way = byValue; what = c }) (byValues cs))

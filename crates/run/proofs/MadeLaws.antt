@@ -10,7 +10,7 @@ use lib.Dec.{eqb, leb, ltb}
 use lib.ListN.{length, drop, length-append}
 use Rattle.message.specs.Choice.{pick}
 use Rattle.message.specs.Logs.{Block}
-use Rattle.message.specs.Message.{Meaning, logMessage, bytesOf}
+use Rattle.message.specs.Message.{Meaning, logMessage, proposalMessage, bytesOf, priorityIn}
 use Rattle.message.proofs.TestLaws.{either, or-false, or-true}
 use Rattle.message.proofs.Acceptance.{length-blocks}
 use Rattle.message.proofs.WrittenFields.{length-message}
@@ -24,6 +24,7 @@ use Rattle.calls.specs.Steps.{Leaves}
 use Rattle.bench.specs.declared.Made.{Made}
 use Rattle.bench.specs.declared.Made.the-variants as makings
 use Rattle.bench.proofs.Buffer.{madeIn, act-out, out-made}
+use Rattle.bench.proofs.Replies.{made-nothing, made-log, made-proposal, made-refused}
 use Rattle.run.specs.declared.Offer.{Offer}
 use Rattle.run.specs.Roll.{eventsOf, kindAt, actKind, misshapen, freshBuffer, offeredAt, priorityAt, callAt}
 use Rattle.run.specs.RollText.{freshLists, stepOf}
@@ -66,11 +67,12 @@ module _ (a : Made) where
 
 -- the code's answer and the message in the buffer say the same
 length-answer : (out : List ℕ) (a : Made) → lengthFor a ≡ madeLength (madeBy (madeReply out a))
-unfolding lengthFor madeReply
-length-answer out makings.Nothing = refl
-length-answer out (makings.Log k) = sym (length-message (logMessage (contentMade out k)) ∙ rw (length-blocks out k))
-length-answer out (makings.Proposal k) = sym (length-message _ ∙ rw (length-blocks out k))
-length-answer out (makings.Refused number) = refl
+unfolding lengthFor
+length-answer out makings.Nothing = rw (made-nothing out)
+length-answer out (makings.Log k) = rw (made-log out k) (sym (length-message (logMessage (contentMade out k)) ∙ rw (length-blocks out k)))
+length-answer out (makings.Proposal k) =
+    rw (made-proposal out k) (sym (length-message (proposalMessage (contentMade out k) (priorityIn out)) ∙ rw (length-blocks out k)))
+length-answer out (makings.Refused number) = rw (made-refused out number)
 
 -- ---- the Act
 

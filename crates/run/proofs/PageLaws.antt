@@ -6,10 +6,10 @@ use mathlib.Core.List.{List, [], _∷_, _++_}
 use mathlib.Core.Path.{_≡_, refl, sym, ap, _∙_}
 use borrow.Author.Tests.{lt-ltb, le-ltb, ltb-false}
 use lib.ListN.{length, getD, set, length-append}
-use Rattle.message.specs.Numbers.{part, put, bytesFor}
+use Rattle.message.specs.Numbers.{part, put}
 use Rattle.message.proofs.TestLaws.{or-false, or-true}
-use Rattle.message.proofs.NumberLaws.{length-bytes}
-use Rattle.message.proofs.PartLaws.{length-part}
+use Rattle.message.proofs.NumberLaws.{bytes-four, length-bytes}
+use Rattle.message.proofs.PartLaws.{part-nil, part-step, length-part, put-nil, put-cons}
 use Rattle.agreement.specs.Sets.{member, isYes}
 use Rattle.agreement.specs.Record.{Agreement, agreementFrom}
 use Rattle.agreement.specs.declared.Marks.{Marks}
@@ -48,15 +48,14 @@ flags-step s i m h = let e : m ≡ suc (m - 1) = omega arith in ap (flagsFrom s 
 
 module _ (z l : List ℕ) (s : ℕ) (p i : ℕ) (e : z ≡ put l p (flagsFrom s i (32 - i))) where
   pub flag-next : (r : Bool) → i < 32 → r ≡ member s i → z ≡ put (set l p (mir.Val.boolByte r)) (p + 1) (flagsFrom s (i + 1) (32 - (i + 1)))
-  unfolding put
   flag-next r h q =
       let n : 32 - i - 1 ≡ 32 - (i + 1) = omega arith in
       let x : mir.Val.boolByte r ≡ flag (member s i) = flag-is r ∙ ap flag q in
-      e ∙ rw (flags-step s i (32 - i) (omega arith), n, x)
+      e ∙ rw (flags-step s i (32 - i) (omega arith), n, x, put-cons)
 
   flags-end : 32 ≤ i → l ≡ z
-  unfolding put flagsFrom
-  flags-end h = let n : 32 - i ≡ 0 = omega arith in sym (e ∙ rw n)
+  unfolding flagsFrom
+  flags-end h = let n : 32 - i ≡ 0 = omega arith in sym (e ∙ rw n (put-nil l p))
 
 pub set-put : (before l : List ℕ) (s : ℕ) (at p i : ℕ) → put before at (setBytes s) ≡ put l p (flagsFrom s i (32 - i)) → p ≡ at + i → i ≤ 32 → 32 ≤ i
     → Puts (setBytes s) at before p l
@@ -67,18 +66,12 @@ set-put before l s at p i e q h k = record {
 
 -- ---- a row of numbers
 
-row-step : (row : List ℕ) (i m : ℕ) → 0 < m → part row i m ≡ getD row i 0 ∷ part row (i + 1) (m - 1)
-unfolding part
-row-step row i m h = let e : m ≡ suc (m - 1) = omega arith in ap (part row i) e
-
 module _ (z l row : List ℕ) (p i : ℕ) (e : z ≡ put l p (part row i (32 - i))) where
   pub row-next : (x : ℕ) → i < 32 → x ≡ getD row i 0 → z ≡ put (set l p x) (p + 1) (part row (i + 1) (32 - (i + 1)))
-  unfolding put
-  row-next x h q = let n : 32 - i - 1 ≡ 32 - (i + 1) = omega arith in e ∙ rw (row-step row i (32 - i) (omega arith), n, q)
+  row-next x h q = let n : 32 - i - 1 ≡ 32 - (i + 1) = omega arith in e ∙ rw (part-step row i (32 - i) (omega arith), n, q, put-cons)
 
   row-end : 32 ≤ i → l ≡ z
-  unfolding put part
-  row-end h = let n : 32 - i ≡ 0 = omega arith in sym (e ∙ rw n)
+  row-end h = let n : 32 - i ≡ 0 = omega arith in sym (e ∙ rw (n, part-nil row i) (put-nil l p))
 
 pub row-put : (before l row : List ℕ) (at p i : ℕ) → put before at (part row 0 32) ≡ put l p (part row i (32 - i)) → p ≡ at + i → i ≤ 32 → 32 ≤ i
     → Puts (part row 0 32) at before p l
@@ -93,8 +86,8 @@ module _ (g : Marks) (at : ℕ) (l : List ℕ) (p : ℕ) (m : List ℕ) where
   pub head-put : (x y : ℕ) → x ≡ flag (isYes (g .one .taken)) → y ≡ flag (isYes (g .two .taken))
       → Puts (g .view % 256 ∷ g .view / 256 % 256 ∷ g .view / 256 / 256 % 256 ∷ g .view / 256 / 256 / 256 % 256 ∷ x ∷ y ∷ []) at l p m
       → Puts (headBytes (agreementFrom g [])) at l p m
-  unfolding headBytes bytesFor
-  head-put x y e f h = rw (e, f) at h
+  unfolding headBytes
+  head-put x y e f h = rw (bytes-four (g .view), ← e, ← f) h
 
   module _ (q : ℕ) (o : List ℕ) (r : ℕ) (u : List ℕ) where
     pub slot-put : (lengths : List ℕ) → Puts (headBytes (agreementFrom g [])) at l p m → Puts (part lengths 0 32) p m q o

@@ -4,10 +4,11 @@ use native.Mathlib.Omega.{arith}
 use mathlib.Core.Bool.{Bool, true, false, not, _||_}
 use mathlib.Core.List.{List}
 use mathlib.Core.Path.{_≡_, refl, sym, ap, _∙_}
-use borrow.Author.Tests.{lt-ltb, le-ltb, le-leb, eqb-true, eqb-false, ne-eqb, ltb-false}
-use lib.Dec.{eqb, leb, ltb}
+use borrow.Author.Tests.{lt-ltb, le-ltb, eqb-true, eqb-false, ne-eqb, ltb-false}
+use lib.Dec.{eqb, ltb}
 use lib.ListN.{length, getD}
-use Rattle.message.specs.Numbers.{numberAt, numberIn}
+use Rattle.message.specs.Numbers.{numberAt}
+use Rattle.message.proofs.NumberLaws.{number-inside}
 use Rattle.message.proofs.LoopLaws.{two-bytes}
 use Rattle.message.proofs.TestLaws.{either, or-false}
 use Rattle.run.specs.Roll.{mostRoll, mostEvents, sizesLength, markLength, eventsOf, markPlace, kindAt, zeroAt, lengthAt, bodiesPlace, rightBody, wrongMark, misfits, misshapen}
@@ -17,12 +18,10 @@ use Rattle.run.specs.RollSteps.{Marked, MarkIs, Shaped, Lies}
 
 pub mark-is : (s : List ℕ) (i x y u v : ℕ) → Marked s i → (x ≡ kindAt s i) × (x < 256) → (y ≡ zeroAt s i) × (y < 256)
     → (u ≡ getD s (markPlace i + 2) 0) × (u < 256) → (v ≡ getD s (markPlace i + 3) 0) × (v < 256) → MarkIs s i (x + y * 256 + (u + v * 256) * 65536)
-unfolding numberIn
 mark-is s i x y u v h (e, a) (f, b) (g, c) (j, d) =
     let n : markPlace i + 2 + 1 ≡ markPlace i + 3 = omega arith in
     let t = two-bytes s (markPlace i + 2) u v g (j ∙ ap (λ (k : ℕ). getD s k 0) (sym n)) in
-    let l : leb (markPlace i + 2 + 2) (length s) ≡ true = le-leb (markPlace i + 2 + 2) (length s) (omega arith) in
-    let w : lengthAt s i ≡ numberAt 2 s (markPlace i + 2) = rw l in
+    let w : lengthAt s i ≡ numberAt 2 s (markPlace i + 2) = number-inside 2 s (markPlace i + 2) (omega arith) in
     record { start = omega arith; kind = omega arith; body = omega arith; short = omega arith }
 
 -- a mark whose second byte is not zero has a lower half that is no kind

@@ -1,17 +1,17 @@
 -- The lines of a roll are those worked out from its calls: the answers by the rules, D and the mark by the decisions. So what the lent lists hold at
 -- first shows nowhere. Assumes nothing.
 use Prim.Native.Nat.{ℕ, zero, suc, _+_, _^_, _<_}
-use native.Mathlib.Nat.{pow-suc}
 use native.Mathlib.Omega.{arith}
 use mathlib.Core.List.{List, [], _∷_, _++_}
 use mathlib.Core.Bool.{true, false}
 use mathlib.Core.Path.{_≡_, refl, sym, ap, _∙_}
-use lib.Dec.{eqb, leb}
-use lib.ListN.{length, take, drop, replicate, length-take, length-drop, length-replicate}
+use lib.Dec.{eqb}
+use lib.ListN.{length, take, drop, length-take, length-drop, length-replicate}
 use lib.Seq.{getD-drop}
 use Rattle.message.specs.Numbers.{AllBelow, numberIn}
 use Rattle.message.proofs.TestLaws.{either}
-use Rattle.message.proofs.NumberLaws.{number-below}
+use Rattle.message.proofs.PartLaws.{zeros-below}
+use Rattle.message.proofs.NumberLaws.{number-in-below}
 use Rattle.message.proofs.ListedLaws.{length-at}
 use Rattle.bench.specs.Terms.{Terms, nothingStands, seatOf}
 use Rattle.bench.specs.Layout.{mostBytes, decidedPlace, leastLent}
@@ -61,11 +61,6 @@ take-below B (suc k) (x ∷ l) h f (suc i) = take-below B k l h (λ j. f (suc j)
 drop-below : (B k : ℕ) (l : List ℕ) → AllBelow B l → AllBelow B (drop k l)
 drop-below B k l f i = rw getD-drop (f (k + i))
 
-zeros-below : (B k : ℕ) → 0 < B → AllBelow B (replicate k 0)
-zeros-below B zero h i = h
-zeros-below B (suc k) h zero = h
-zeros-below B (suc k) h (suc i) = zeros-below B k h i
-
 is-done : (r : Reply) → isDone r ≡ true → r ≡ done
 is-done (refused k) e = let z : _≡_ {A = ℕ} 0 1 = cc in absurd (omega arith)
 is-done done e = refl
@@ -74,12 +69,7 @@ is-done (acted made) e = let z : _≡_ {A = ℕ} 0 1 = cc in absurd (omega arith
 
 module _ (s : List ℕ) (bytes : AllBelow 256 s) where
   number-fits : (w a : ℕ) → numberIn w s a < 256 ^ w
-  unfolding numberIn
-  number-fits w a = either (leb (a + w) (length s)) (λ e. rw e (number-below w s a bytes)) (λ e. rw e (pow-positive w))
-    where
-      pow-positive : (w : ℕ) → 0 < 256 ^ w
-      pow-positive zero = omega arith
-      pow-positive (suc w) = rw (pow-suc 256 w) (omega (arith, pow-positive w))
+  number-fits w a = number-in-below w s a bytes
 
   call-typed : (i a : ℕ) → Typed (callAt s i a)
   unfolding callAt

@@ -9,7 +9,7 @@ use borrow.Author.Tests.{lt-ltb, le-ltb, eq-eqb, ne-eqb}
 use lib.ListN.{length, getD, set, drop, length-append}
 use lib.Seq.{drop-cons, drop-length}
 use Rattle.message.specs.Numbers.{put}
-use Rattle.message.proofs.PartLaws.{put-append}
+use Rattle.message.proofs.PartLaws.{put-nil, put-cons, put-append}
 use Rattle.agreement.specs.Sets.{isYes}
 use Rattle.bench.specs.declared.Made.{Made}
 use Rattle.run.specs.declared.Answered.{Answered}
@@ -21,18 +21,15 @@ use Rattle.run.specs.RollSteps.{actedText, answerText, Puts, pairOf}
 
 module _ (z l word : List ℕ) (p i : ℕ) (e : z ≡ put l p (drop i word)) where
   pub word-next : (x : ℕ) → i < length word → x ≡ getD word i 0 → z ≡ put (set l p x) (p + 1) (drop (i + 1) word)
-  unfolding put
-  word-next x h q = e ∙ rw (add-one i, drop-cons word i 0 h, q)
+  word-next x h q = e ∙ rw (add-one i, drop-cons word i 0 h, q) (put-cons l p (getD word i 0) (drop (suc i) word))
 
   pub word-end : length word ≤ i → i ≤ length word → l ≡ z
-  unfolding put
-  word-end h k = let n : i ≡ length word = omega arith in sym (e ∙ rw (n, drop-length word))
+  word-end h k = let n : i ≡ length word = omega arith in sym (e ∙ rw (n, drop-length word) (put-nil l p))
 
 -- ---- one after the other
 
 pub puts-none : (xs : List ℕ) (at : ℕ) (l : List ℕ) → xs ≡ [] → Puts xs at l at l
-unfolding put
-puts-none xs at l e = record { place = rw e (omega arith); text = rw e }
+puts-none xs at l e = record { place = rw e (omega arith); text = rw (e, put-nil l at) }
 
 pub puts-then : (xs ys : List ℕ) (at : ℕ) (l : List ℕ) (r : ℕ) (m : List ℕ) (q : ℕ) (o : List ℕ) → Puts xs at l r m → Puts ys r m q o
     → Puts (xs ++ ys) at l q o
@@ -94,8 +91,7 @@ unfolding digits
 digits-none m x e = rw e
 
 pub digit-one : (m x at : ℕ) (l : List ℕ) → 0 < m → x < 10 → Puts (digits m x) at l (at + 1) (set l at (48 + x))
-unfolding put
-digit-one m x at l n h = let e = digits-one m x n h in record { place = rw e; text = rw e }
+digit-one m x at l n h = let e = digits-one m x n h in record { place = rw e; text = rw (e, put-cons, put-nil) }
 
 digits-two : (m x : ℕ) → 1 < m → 10 ≤ x → x < 100 → digits m x ≡ pairOf x
 digits-two m x h k l = digits-step m x (omega arith) k ∙ ap (λ (xs : List ℕ). xs ++ ((48 + x % 10) ∷ [])) (digits-one (m - 1) (x / 10) (omega arith) (omega arith))
@@ -112,8 +108,7 @@ digits-pair m n x e h =
     ∙ (λ i. digits (k i) (d i) ++ ((48 + t i) ∷ (48 + u i) ∷ []))
 
 pub pair-puts : (x at : ℕ) (l : List ℕ) → Puts (pairOf x) at l (at + 2) (set (set l at (48 + x / 10)) (at + 1) (48 + x % 10))
-unfolding put
-pair-puts x at l = record { place = refl; text = refl }
+pair-puts x at l = record { place = refl; text = rw (put-cons l at, put-cons, put-nil) }
 
 pub digits-are-two : (m x at : ℕ) (l : List ℕ) (r : ℕ) (o : List ℕ) → 1 < m → 10 ≤ x → x < 100 → Puts (pairOf x) at l r o → Puts (digits m x) at l r o
 digits-are-two m x at l r o h k g f = rw (digits-two m x h k g) f

@@ -12,7 +12,7 @@ use Rattle.bench.specs.declared.Bench.{Bench}
 use Rattle.bench.specs.declared.Start.{Start}
 use Rattle.bench.specs.declared.Taken.{Taken}
 use Rattle.bench.specs.declared.Made.{Made}
-use Rattle.demand.specs.Demand.{runs, answers}
+use Rattle.demand.proofs.MachineLaws.{runs-nil, runs-cons, answers-nil, answers-cons}
 use Rattle.schedules.specs.Gathering.{gatheringOf, GatheringGives}
 
 module _ (x : State) (beat : ℕ) (message : List ℕ) (block : Block) (priority : ℕ) (out : List ℕ) (h₁ h₂ h₃ : Bench) (ns₁ cs₁ ns₂ cs₂ ns₃ cs₃ left : List ℕ) (r₁ : Start) (r₂ : Taken) (r₃ : Made) where
@@ -30,7 +30,6 @@ module _ (x : State) (beat : ℕ) (message : List ℕ) (block : Block) (priority
       → ReceiveGives (received (stateOf h₁ ns₁ cs₁)) r₂ (benchOf h₂) ns₂ cs₂
       → ActGives (acted (stateOf h₂ ns₂ cs₂)) r₃ (benchOf h₃) ns₃ cs₃ left
       → GatheringGives x (gatheringOf beat message block priority out) (record { started = r₁; taken = r₂; made = r₃; bench = h₃ }) ns₃ cs₃ left
-  unfolding runs answers
   gathered b r a =
       let one : stateOf h₁ ns₁ cs₁ ≡ begun .held = λ i. heldWith (b .bench i) (b .nameList i) (b .countList i) in
       let two : stateOf h₂ ns₂ cs₂ ≡ received (begun .held) .held =
@@ -43,4 +42,7 @@ module _ (x : State) (beat : ℕ) (message : List ℕ) (block : Block) (priority
       (λ i. record { reply = r .answered i; out = sym (receive-out (stateOf h₁ ns₁ cs₁) message) i }) ∙ ap (λ (s : State). received s .answer) one in
       let made : _≡_ {A = Answer} (record { reply = madeReply left r₃; out = left }) (acted (received (begun .held) .held) .answer) =
       (λ i. record { reply = a .answered i; out = a .buffer i }) ∙ ap (λ (s : State). acted s .answer) two in
-      record { answered = λ i. started i ∷ taken i ∷ made i ∷ []; held = three }
+      record {
+        answered = rw (answers-cons, answers-cons, answers-cons, answers-nil) (λ i. started i ∷ taken i ∷ made i ∷ []);
+        held = rw (runs-cons, runs-cons, runs-cons, runs-nil) three;
+      }
