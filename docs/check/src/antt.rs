@@ -115,7 +115,8 @@ fn is_name(word: &str) -> bool {
     !word.contains(['(', ')', '{', '}', '=', ';', ',', '→', 'λ', '"']) && word != "_" && word != "|"
 }
 
-fn without_comment(line: &str) -> &str {
+/// A line up to its comment.
+pub fn without_comment(line: &str) -> &str {
     let starts = line.match_indices("--").map(|(place, _)| place);
     let mut comments = starts.filter(|&place| line[..place].is_empty() || line[..place].ends_with(' '));
     comments.next().map_or(line, |place| &line[..place])

@@ -1,4 +1,4 @@
-//! The documents held against the sources: the names they use, the paths, the edits, the chart.
+//! The documents held against the sources: the names they use, the paths, the edits, the chart; and proofs against the layers.
 pub mod antt;
 pub mod believed;
 pub mod chart;
@@ -8,6 +8,7 @@ pub mod definitions;
 pub mod finding;
 pub mod layers;
 pub mod markdown;
+pub mod opened;
 pub mod paths;
 pub mod public;
 pub mod reading_names;

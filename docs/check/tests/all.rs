@@ -3,6 +3,7 @@ mod believed;
 mod chart;
 mod declarations;
 mod documents;
+mod opened;
 mod paths;
 mod reading_names;
 mod sentences;
