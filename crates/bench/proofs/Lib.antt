@@ -16,10 +16,13 @@ pub mod FineBench
 pub mod ReadRefusals
 pub mod Refusals
 pub mod TestedLaws
+pub mod LimitLaws
 pub mod Buffer
 pub mod Never
--- No two answers of the code are read alike:
+-- The code's answers, read as document 01's:
 pub mod Replies
+-- An act, case by case:
+pub mod ActLaws
 -- The tie between record and history, kept by every call:
 pub mod Ties
 pub mod Filling

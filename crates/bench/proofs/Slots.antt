@@ -95,11 +95,43 @@ module _ (b : Bench) (v : ℕ) where
   unfolding proposalsOf
   proposals-fine h f = either (eqb (b .proposals .marks .view) v) (λ t. rw t (f .proposals)) (λ t. rw t (empty-proposals-fine (b .n) v h))
 
+  -- by the slot: of view v's parity, and the one of proposals
+  pub agreement-even : isEven v ≡ true → agreementOf b v ≡ ofView (b .even) v
+  unfolding agreementOf
+  agreement-even t = rw t
+
+  pub agreement-odd : isEven v ≡ false → agreementOf b v ≡ ofView (b .odd) v
+  unfolding agreementOf
+  agreement-odd t = rw t
+
+  pub proposals-slot : proposalsOf b v ≡ proposedIn (b .proposals) v
+  unfolding proposalsOf
+  proposals-slot = refl
+
+-- nothing else of the record matters to it
+pub same-agreement : (b c : Bench) (v : ℕ) → c .even ≡ b .even → c .odd ≡ b .odd → agreementOf c v ≡ agreementOf b v
+unfolding agreementOf
+same-agreement b c v e o = rw (e, o)
+
 pub same-proposals : (b c : Bench) (v : ℕ) → c .proposals ≡ b .proposals → proposalsOf c v ≡ proposalsOf b v
 unfolding proposalsOf
 same-proposals b c v e = rw e
 
 -- ---- after a change of view v's agreement
+
+-- the record with these agreements
+abbrev pub withSlots : Bench → Agreement → Agreement → Bench
+withSlots b even odd = record {
+  n = b .n;
+  own = b .own;
+  next = b .next;
+  gathering = b .gathering;
+  even = even;
+  odd = odd;
+  proposals = b .proposals;
+  decided = b .decided;
+  parted = b .parted;
+}
 
 -- all but the agreements is the same
 pub record SameBesides (b c : Bench) : Type 0 where
@@ -112,6 +144,15 @@ pub record SameBesides (b c : Bench) : Type 0 where
   pub parted : c .parted ≡ b .parted
 
 module _ (b : Bench) (v : ℕ) (g : Agreement) where
+  -- it is stored in the slot of v's parity
+  pub stored-even : isEven v ≡ true → withAgreement b v g ≡ withSlots b g (b .odd)
+  unfolding withAgreement
+  stored-even t = rw t
+
+  pub stored-odd : isEven v ≡ false → withAgreement b v g ≡ withSlots b (b .even) g
+  unfolding withAgreement
+  stored-odd t = rw t
+
   -- nothing else of the record changes
   pub agreement-rest : SameBesides b (withAgreement b v g)
   unfolding withAgreement
@@ -168,6 +209,25 @@ module _ (b : Bench) (v : ℕ) (g : Proposals) where
   proposals-beside u e h = other-proposals g u (λ z. h (sym z ∙ e))
 
 -- ---- what a Begin leaves
+
+-- what its window has passed for is forgotten, and all else kept
+module _ (beat : ℕ) (g : Agreement) where
+  pub agreement-forgotten : logsShut (g .marks .view) beat ≡ true → keptAgreement beat g ≡ emptyAgreement 0
+  unfolding keptAgreement
+  agreement-forgotten t = rw t
+
+  pub agreement-kept : logsShut (g .marks .view) beat ≡ false → keptAgreement beat g ≡ g
+  unfolding keptAgreement
+  agreement-kept t = rw t
+
+module _ (beat : ℕ) (g : Proposals) where
+  pub proposals-forgotten : proposalsShut (g .marks .view) beat ≡ true → keptProposals beat g ≡ emptyProposals 0
+  unfolding keptProposals
+  proposals-forgotten t = rw t
+
+  pub proposals-kept : proposalsShut (g .marks .view) beat ≡ false → keptProposals beat g ≡ g
+  unfolding keptProposals
+  proposals-kept t = rw t
 
 -- an open view's is left as it was
 kept-open : (beat : ℕ) (g : Agreement) (v : ℕ) → beat ≤ closeBeat v → ofView (keptAgreement beat g) v ≡ ofView g v

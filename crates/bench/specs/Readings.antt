@@ -18,7 +18,7 @@ use Rattle.bench.specs.ByRecord.{usedOf}
 use Rattle.bench.specs.declared.Counted.{Counted}
 
 -- The agreement that the act reads, of the view before. View 0 has none before it, and snapshot two reads none: an empty one, in which nobody is
--- heard (ReadingCases: none-first, none-snapping).
+-- heard (crate calls, ReadingCases: read-first, read-late).
 unfoldable pub agreementBefore : Bench → ℕ → Agreement
 agreementBefore b zero = emptyAgreement 0
 agreementBefore b (suc u) = agreementOf b u
