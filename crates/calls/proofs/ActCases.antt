@@ -9,19 +9,21 @@ use Rattle.message.specs.Logs.{Block}
 use Rattle.bench.specs.Layout.{mostBytes, shortLists}
 use Rattle.bench.specs.Calendar.{viewOf, placeIn, Act, proposing, voting, deciding, snapping, actAt}
 use Rattle.bench.specs.Calls.{State}
-use Rattle.bench.specs.Acts.{makes}
 use Rattle.bench.specs.Record.{Bench, benchFrom, beatOf, idle, beyond}
-use Rattle.bench.specs.ByRecord.{refuse, usedOf, settled, snappedBy, changed, actedOf, over, actOf}
+use Rattle.bench.specs.ByRecord.{refuse, usedOf, seenOf, settled, snappedBy, changed, actedOf, over, actOf}
 use Rattle.agreement.specs.Record.{one}
-use Rattle.bench.specs.Answers.{lentAs, heldWith, madeReply, ActGives}
+use Rattle.bench.specs.Answers.{lentAs, heldWith, ActGives}
 use Rattle.bench.specs.Tested.{Usable, Tested}
 use Rattle.bench.specs.declared.Head.{Head}
 use Rattle.bench.specs.declared.Made.{Made}
 use Rattle.bench.specs.declared.Made.the-variants as makings
 use Rattle.bench.proofs.Refusals.{act-9, act-8, act-11, act-22, act-done}
+use Rattle.bench.proofs.Replies.{made-refused}
+use Rattle.bench.proofs.ActLaws.{makes-deciding, makes-snapping, changed-deciding, changed-snapping, voted-any}
 use Rattle.bench.proofs.TestedLaws.{is-usable, within-limits, tested-over}
 use Rattle.calls.specs.Steps.{bare, noBlock, Decidable, Decides, Snaps}
 use Rattle.calls.proofs.LimitCases.{beyond-of}
+use Rattle.calls.proofs.MakingLaws.{acts-none}
 
 -- ---- the row: of a place in a view that is none of the first three
 
@@ -64,53 +66,25 @@ module _ (h : Head) (e o p q names counts out : List ℕ) where
     proposed y f = row proposing (ap actAt y) f
 
     -- no block is used
-    vote-any : ActGives (actedOf t noBlock 0 out (viewOf beat) voting) x c ns cs out′ → ActGives (actedOf (over s) block priority out (viewOf beat) voting) x c ns cs out′
-    unfolding actedOf makes
-    vote-any f = f
-
     pub voted : placeIn beat ≡ 1 → ActGives (actedOf t noBlock 0 out (viewOf beat) voting) x c ns cs out′
         → ActGives (actedOf (over s) block priority out (viewOf (beatOf (bare h))) (actAt (placeIn (beatOf (bare h))))) x c ns cs out′
-    voted y f = row voting (ap actAt y) (vote-any f)
+    voted y f = row voting (ap actAt y) (rw (voted-any t (viewOf beat) block noBlock priority 0 out) f)
 
   -- nothing is made: the state after is what the act changed
   abbrev Left : Act → ℕ → Bench → List ℕ → List ℕ → Type 0
-  Left a v c ns cs = heldWith c ns cs ≡ changed (over s) v a
-
-  decides-still : (block : Block) (priority v : ℕ) (c : Bench) (ns cs : List ℕ) → Left deciding v c ns cs
-      → ActGives (actedOf (over s) block priority out v deciding) makings.Nothing c ns cs out
-  unfolding actedOf makes madeReply
-  decides-still block priority v c ns cs y = record {
-    answered = refl;
-    bench = ap (λ (x : State). x .bench) y;
-    nameList = ap (λ (x : State). x .lent .names) y;
-    countList = ap (λ (x : State). x .lent .counts) y;
-    buffer = refl;
-  }
-
-  snaps-still : (block : Block) (priority v : ℕ) (c : Bench) (ns cs : List ℕ) → Left snapping v c ns cs
-      → ActGives (actedOf (over s) block priority out v snapping) makings.Nothing c ns cs out
-  unfolding actedOf makes madeReply
-  snaps-still block priority v c ns cs y = record {
-    answered = refl;
-    bench = ap (λ (x : State). x .bench) y;
-    nameList = ap (λ (x : State). x .lent .names) y;
-    countList = ap (λ (x : State). x .lent .counts) y;
-    buffer = refl;
-  }
+  Left a v c ns cs = changed t v a ≡ heldWith c ns cs
 
   -- it decides first, and then takes its snapshot
   closes : (v : ℕ) (c r : Head) (e′ o′ ns cs : List ℕ) → Decides (overHead h) e o names counts v c ns cs → Snaps c e o v false r e′ o′
       → Left deciding v (benchFrom r e′ o′ p q) ns cs
-  unfolding changed
   closes v c r e′ o′ ns cs d w =
       let l = d .whole p q in
       let y : heldWith (benchFrom c e o p q) ns cs ≡ settled t (usedOf t v deciding) =
       λ i. record { bench = l .bench i; lent = record { names = l .nameList i; counts = l .countList i } } in
-      w .whole p q ns cs ∙ ap (snappedBy one v) y
+      changed-deciding t v ∙ sym (w .whole p q ns cs ∙ ap (snappedBy one v) y)
 
   takes : (v : ℕ) (r : Head) (e′ o′ : List ℕ) → Snaps (overHead h) e o v true r e′ o′ → Left snapping v (benchFrom r e′ o′ p q) names counts
-  unfolding changed settled
-  takes v r e′ o′ w = w .whole p q names counts
+  takes v r e′ o′ w = changed-snapping t v ∙ sym (w .whole p q names counts)
 
   module _ (block : Block) (priority beat : ℕ) (now : beat ≡ beatOf (bare h)) (r : Head) (e′ o′ : List ℕ) where
     abbrev Done : List ℕ → List ℕ → Type 0
@@ -119,12 +93,14 @@ module _ (h : Head) (e o p q names counts out : List ℕ) where
     pub decided : (c : Head) (ns cs : List ℕ) → placeIn beat ≡ 2 → Decides (overHead h) e o names counts (viewOf beat) c ns cs → Snaps c e o (viewOf beat) false r e′ o′ → Done ns cs
     decided c ns cs y d w =
         row block priority beat makings.Nothing (benchFrom r e′ o′ p q) ns cs out now deciding (ap actAt y)
-        (decides-still block priority (viewOf beat) (benchFrom r e′ o′ p q) ns cs (closes (viewOf beat) c r e′ o′ ns cs d w))
+        (acts-none t block priority out (viewOf beat) deciding (benchFrom r e′ o′ p q) ns cs (closes (viewOf beat) c r e′ o′ ns cs d w)
+        (makes-deciding (h .own) (viewOf beat) block priority (seenOf t (viewOf beat) deciding)))
 
     pub snapped-two : (placeIn beat ≡ 0 → ⊥) → (placeIn beat ≡ 1 → ⊥) → (placeIn beat ≡ 2 → ⊥) → Snaps (overHead h) e o (viewOf beat) true r e′ o′ → Done names counts
     snapped-two x y z w =
         row block priority beat makings.Nothing (benchFrom r e′ o′ p q) names counts out now snapping (after-second (placeIn beat) x y z)
-        (snaps-still block priority (viewOf beat) (benchFrom r e′ o′ p q) names counts (takes (viewOf beat) r e′ o′ w))
+        (acts-none t block priority out (viewOf beat) snapping (benchFrom r e′ o′ p q) names counts (takes (viewOf beat) r e′ o′ w)
+        (makes-snapping (h .own) (viewOf beat) block priority (seenOf t (viewOf beat) snapping)))
 
 -- what the act asks, of its tests
 pub act-tested : (h : Head) (e o p q names counts out : List ℕ) (r : Bool) → r ≡ beyond (benchFrom h e o p []) → r ≡ false
@@ -145,8 +121,7 @@ module _ (h : Head) (e o p q names counts out : List ℕ) (block : Block) (prior
 
   -- refused by k: all is as it was
   act-by : (k : ℕ) → actOf held block priority out ≡ refuse held out k → Refused k
-  unfolding madeReply
-  act-by k y = rw y (record { answered = refl; bench = refl; nameList = refl; countList = refl; buffer = refl })
+  act-by k y = rw y (record { answered = made-refused out k; bench = refl; nameList = refl; countList = refl; buffer = refl })
 
   module _ (r : Bool) (x : r ≡ beyond (benchFrom h e o p [])) where
     whole : r ≡ beyond (benchFrom h e o p q)

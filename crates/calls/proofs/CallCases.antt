@@ -18,6 +18,7 @@ use Rattle.bench.specs.declared.Start.the-variants as starts
 use Rattle.bench.specs.declared.Taken.{Taken}
 use Rattle.bench.specs.declared.Taken.the-variants as takings
 use Rattle.bench.proofs.Refusals.{open-7, open-8, open-done, begin-9, begin-8, begin-10, begin-20, begin-done, receive-9, receive-8, receive-22, receive-on}
+use Rattle.bench.proofs.Replies.{start-done, start-refused}
 use Rattle.bench.proofs.TestedLaws.{is-usable}
 use Rattle.calls.specs.Steps.{bare}
 use Rattle.calls.proofs.LimitCases.{beyond-of}
@@ -34,17 +35,14 @@ module _ (n own : ℕ) (names counts : List ℕ) (b : Bench) (r : Bool) (e : r �
   gives t a o q h = rw o (record { answered = q; bench = h; nameList = refl; countList = refl })
 
   pub open-by-7 : r ≡ true → b ≡ freshBench 0 0 → Opened (starts.Refused 7)
-  unfolding startReply
-  open-by-7 t h = gives (notOpened 7) (starts.Refused 7) (open-7 n own (lentAs names counts) (sym e ∙ t)) refl h
+  open-by-7 t h = gives (notOpened 7) (starts.Refused 7) (open-7 n own (lentAs names counts) (sym e ∙ t)) (start-refused 7) h
 
   module _ (t : r ≡ false) (q : Bool) (f : q ≡ shortLists (lentAs names counts)) where
     pub open-by-8 : q ≡ true → b ≡ freshBench 0 0 → Opened (starts.Refused 8)
-    unfolding startReply
-    open-by-8 u h = gives (notOpened 8) (starts.Refused 8) (open-8 n own (lentAs names counts) (sym e ∙ t) (sym f ∙ u)) refl h
+    open-by-8 u h = gives (notOpened 8) (starts.Refused 8) (open-8 n own (lentAs names counts) (sym e ∙ t) (sym f ∙ u)) (start-refused 8) h
 
     pub opened : q ≡ false → b ≡ freshBench n own → Opened starts.Done
-    unfolding startReply
-    opened u h = gives (record { reply = done; bench = freshBench n own }) starts.Done (open-done n own (lentAs names counts) (sym e ∙ t) (sym f ∙ u)) refl h
+    opened u h = gives (record { reply = done; bench = freshBench n own }) starts.Done (open-done n own (lentAs names counts) (sym e ∙ t) (sym f ∙ u)) start-done h
 
 -- ---- the tests that the other calls share: the code does not look at the priorities
 
@@ -66,8 +64,7 @@ module _ (h : Head) (e o p q names counts : List ℕ) (r : Bool) (x : r ≡ beyo
 
     -- refused by k: all is as it was
     begin-by : (k : ℕ) → beginOf held beat ≡ refuse held [] k → Begun (starts.Refused k) (benchFrom h e o p q)
-    unfolding startReply
-    begin-by k y = rw y (record { answered = refl; bench = refl; nameList = refl; countList = refl })
+    begin-by k y = rw y (record { answered = start-refused k; bench = refl; nameList = refl; countList = refl })
 
     pub begin-by-9 : r ≡ true → Begun (starts.Refused 9) (benchFrom h e o p q)
     begin-by-9 t = begin-by 9 (begin-9 held (sym whole ∙ t) beat)
@@ -85,10 +82,9 @@ module _ (h : Head) (e o p q names counts : List ℕ) (r : Bool) (x : r ≡ beyo
           begin-by-20 v = begin-by 20 (begin-20 held beat (usable y z f u) (le-ltb lastBeat beat l) (sym g ∙ v))
 
           pub begins : (c : Bench) → i ≡ false → c ≡ begunBench (benchFrom h e o p q) beat → Begun starts.Done c
-          unfolding startReply
           begins c v w =
               rw (begin-done held beat (usable y z f u) (le-ltb lastBeat beat l) (sym g ∙ v))
-              (record { answered = refl; bench = w; nameList = refl; countList = refl })
+              (record { answered = start-done; bench = w; nameList = refl; countList = refl })
 
   -- ---- Receive
 

@@ -4,7 +4,7 @@ use mathlib.Core.Bool.{Bool, true, false, _&&_}
 use mathlib.Core.List.{List, []}
 use mathlib.Core.Option.{some}
 use mathlib.Core.Path.{_≡_, refl, sym, ap, _∙_}
-use borrow.Author.Tests.{le-leb, lt-leb}
+use borrow.Author.Tests.{le-leb}
 use lib.Dec.{leb}
 use Rattle.message.specs.Choice.{pick}
 use Rattle.message.specs.Logs.{Log, isPrefix}
@@ -20,12 +20,13 @@ use Rattle.agreement.specs.declared.Grade.the-variants.{Longest, Nothing}
 use Rattle.bench.specs.Layout.{isEven, logsPlace, decidedPlace}
 use Rattle.bench.specs.Calendar.{lastView, deciding}
 use Rattle.bench.specs.Record.{Bench, benchFrom, ofView, agreementOf, withAgreement}
-use Rattle.bench.specs.ByRecord.{usedOf, settled, snappedBy}
+use Rattle.bench.specs.ByRecord.{usedOf, snappedBy}
 use Rattle.bench.specs.Answers.{lentAs, heldWith}
 use Rattle.bench.specs.declared.Head.{Head}
+use Rattle.bench.proofs.ActLaws.{settled-none, settled-extends, settled-stays, settled-parts, snapped-late, snapped-view}
 use Rattle.bench.proofs.TestedLaws.{before-within, decided-within}
 use Rattle.calls.specs.Steps.{Decidable, Settling, Settles, Decides, Snaps}
-use Rattle.calls.proofs.FilingCases.{evenHead, oddHead, read-even, read-odd, stored-even, stored-odd}
+use Rattle.calls.proofs.FilingCases.{evenHead, oddHead, read-even, read-odd, keep-even, keep-odd}
 use Rattle.calls.proofs.SeeingLaws.{used-whole, seen-none, seen-at}
 
 -- ---- the head after a decision
@@ -59,12 +60,15 @@ module _ (h : Head) (names counts : List ℕ) (a k : ℕ) (u : Settling h names 
     -- it extends the decided log, and replaces it
     pub settle-extends : r ≡ true → (done : Bool) (ns cs : List ℕ) → Stores (copyOf names counts a decidedPlace k) done ns cs
         → Settles h names counts (some newLog) (decidedHead h k) ns cs
-    unfolding settled
     settle-extends t done ns cs s =
         let ok : (leb (a + k) decidedPlace && within names counts decidedPlace k) ≡ true =
         rw (le-leb (a + k) decidedPlace (u .before .0), decided-within (lentAs names counts) (u .decidable .lists) k (u .before .1)) in
         let w = stored-inside (leb (a + k) decidedPlace && within names counts decidedPlace k) names counts decidedPlace newLog done ns cs ok s in
-        record { whole = λ x y p q. rw (sym extends-is ∙ t) (record { bench = rw (length-at names counts a k); nameList = w .1 .0; countList = w .1 .1 }) }
+        record {
+          whole = λ x y p q.
+              rw (settled-extends (heldWith (benchFrom h x y p q) names counts) newLog (sym extends-is ∙ t))
+              (record { bench = rw (length-at names counts a k); nameList = w .1 .0; countList = w .1 .1 });
+        }
 
     module _ (f : r ≡ false) (c : Bool) (g : c ≡ prefixAt names counts a k decidedPlace (h .decided)) where
       covered-is : c ≡ isPrefix newLog oldLog
@@ -72,13 +76,19 @@ module _ (h : Head) (names counts : List ℕ) (a k : ℕ) (u : Settling h names 
 
       -- it is a prefix of it
       pub settle-stays : c ≡ true → Settles h names counts (some newLog) h names counts
-      unfolding settled
-      settle-stays t = record { whole = λ x y p q. rw (sym extends-is ∙ f, sym covered-is ∙ t) (record { bench = refl; nameList = refl; countList = refl }) }
+      settle-stays t = record {
+        whole = λ x y p q.
+            rw (settled-stays (heldWith (benchFrom h x y p q) names counts) newLog (sym extends-is ∙ f) (sym covered-is ∙ t))
+            (record { bench = refl; nameList = refl; countList = refl });
+      }
 
       -- they conflict
       pub settle-parts : c ≡ false → Settles h names counts (some newLog) (partedHead h) names counts
-      unfolding settled
-      settle-parts t = record { whole = λ x y p q. rw (sym extends-is ∙ f, sym covered-is ∙ t) (record { bench = refl; nameList = refl; countList = refl }) }
+      settle-parts t = record {
+        whole = λ x y p q.
+            rw (settled-parts (heldWith (benchFrom h x y p q) names counts) newLog (sym extends-is ∙ f) (sym covered-is ∙ t))
+            (record { bench = refl; nameList = refl; countList = refl });
+      }
 
 -- ---- the decision, where the grade gives one
 
@@ -92,8 +102,10 @@ module _ (h : Head) (e o names counts : List ℕ) (v : ℕ) (r : Grade)
   decision-settling i k at t p d = record { decidable = d; before = seen-at _ names counts v r w i k at t p .before }
 
   pub decide-none : r ≡ Nothing → Decides h e o names counts v h names counts
-  unfolding settled
-  decide-none t = record { whole = λ p q. rw (← seen-none _ names counts v r (given p q) t .log) (record { bench = refl; nameList = refl; countList = refl }) }
+  decide-none t = record {
+    whole = λ p q.
+        rw (← seen-none _ names counts v r (given p q) t .log, settled-none) (record { bench = refl; nameList = refl; countList = refl });
+  }
 
   pub decide-some : (i k at : ℕ) (c : Head) (ns cs : List ℕ) → r ≡ Longest i k → at ≡ placeOf (logsPlace (v - 1)) i
       → Settles h names counts (some (logAt names counts at k)) c ns cs → Decides h e o names counts v c ns cs
@@ -104,29 +116,28 @@ module _ (h : Head) (e o names counts : List ℕ) (v : ℕ) (r : Grade)
 module _ (h : Head) (e o : List ℕ) (v : ℕ) (second : Bool) where
   -- past the last view none is taken
   pub snap-past : lastView < v → Snaps h e o v second h e o
-  unfolding snappedBy
-  snap-past l = record { whole = λ p q names counts. rw (lt-leb v lastView l) }
+  snap-past l = record { whole = λ p q names counts. sym (snapped-late _ v (heldWith (benchFrom h e o p q) names counts) l) }
 
   taken : (m m′ : Marks) (ls : List ℕ) (b c : Bench) → v ≤ lastView → agreementFrom m ls ≡ agreementOf b v → m′ ≡ snapped (pick second two one) m
       → ((g : Agreement) → agreementFrom m′ ls ≡ g → c ≡ withAgreement b v g)
       → (names counts : List ℕ) → heldWith c names counts ≡ snappedBy (pick second two one) v (heldWith b names counts)
-  unfolding snappedBy
-  taken m m′ ls b c l g s stored names counts =
-      rw (le-leb v lastView l)
-      (ap (λ (x : Bench). heldWith x names counts)
-      (stored (withSnapshot (pick second two one) (agreementOf b v)) ((λ i. agreementFrom (s i) ls) ∙ ap (withSnapshot (pick second two one)) g)))
+  taken m m′ ls b c l g s kept names counts =
+      ap (λ (x : Bench). heldWith x names counts)
+      (kept (withSnapshot (pick second two one) (agreementOf b v))
+      ((λ i. agreementFrom (s i) ls) ∙ ap (withSnapshot (pick second two one)) g))
+      ∙ sym (snapped-view (pick second two one) v (heldWith b names counts) l)
 
   module _ (x : Bool) (y : x ≡ isEven v) (m m′ : Marks) (ls : List ℕ) (l : v ≤ lastView) (s : m′ ≡ snapped (pick second two one) m) where
     pub snap-even : x ≡ true → agreementFrom m ls ≡ ofView (agreementFrom (h .even) e) v → Snaps h e o v second (evenHead h m′) ls o
     snap-even t g = record {
       whole = λ p q names counts.
           let b = benchFrom h e o p q in
-          taken m m′ ls b (benchFrom (evenHead h m′) ls o p q) l (g ∙ read-even x v y b t) s (stored-even x v y b t (agreementFrom m′ ls)) names counts;
+          taken m m′ ls b (benchFrom (evenHead h m′) ls o p q) l (g ∙ read-even x v y b t) s (keep-even x v y b t (agreementFrom m′ ls)) names counts;
     }
 
     pub snap-odd : x ≡ false → agreementFrom m ls ≡ ofView (agreementFrom (h .odd) o) v → Snaps h e o v second (oddHead h m′) e ls
     snap-odd t g = record {
       whole = λ p q names counts.
           let b = benchFrom h e o p q in
-          taken m m′ ls b (benchFrom (oddHead h m′) e ls p q) l (g ∙ read-odd x v y b t) s (stored-odd x v y b t (agreementFrom m′ ls)) names counts;
+          taken m m′ ls b (benchFrom (oddHead h m′) e ls p q) l (g ∙ read-odd x v y b t) s (keep-odd x v y b t (agreementFrom m′ ls)) names counts;
     }

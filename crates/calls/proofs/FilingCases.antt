@@ -2,7 +2,7 @@
 use Prim.Native.Nat.{ℕ}
 use mathlib.Core.Bool.{Bool, true, false}
 use mathlib.Core.List.{List}
-use mathlib.Core.Path.{_≡_, refl, ap, subst, _∙_}
+use mathlib.Core.Path.{_≡_, sym, ap, subst, _∙_}
 use Rattle.agreement.specs.Filing.{Files, fileOf, wordOf}
 use Rattle.agreement.specs.Record.{Agreement, agreementFrom}
 use Rattle.agreement.specs.Proposals.{Proposals, proposalsFrom, FilesProposal, fileProposalOf}
@@ -20,19 +20,18 @@ use Rattle.bench.specs.Answers.{heldWith, takenReply, ReceiveGives}
 use Rattle.bench.specs.declared.Head.{Head}
 use Rattle.bench.specs.declared.Taken.{Taken}
 use Rattle.bench.specs.declared.Taken.the-variants as takings
+use Rattle.bench.proofs.Replies.{taken-first, taken-second, taken-known}
+use Rattle.bench.proofs.Slots.{withSlots, agreement-even, agreement-odd, proposals-slot, stored-even, stored-odd}
 use Rattle.calls.specs.Steps.{LogFiled, ProposalFiled}
 
 pub word-first : (a : Answer) → a ≡ words.First → takenReply takings.First ≡ took (wordOf a)
-unfolding takenReply
-word-first a e = rw e
+word-first a e = rw e taken-first
 
 pub word-second : (a : Answer) → a ≡ words.Second → takenReply takings.Second ≡ took (wordOf a)
-unfolding takenReply
-word-second a e = rw e
+word-second a e = rw e taken-second
 
 pub word-known : (a : Answer) → a ≡ words.Known → takenReply takings.Known ≡ took (wordOf a)
-unfolding takenReply
-word-known a e = rw e
+word-known a e = rw e taken-known
 
 -- ---- the head with another agreement, or other proposals
 
@@ -47,36 +46,18 @@ shownHead h m = record { next = h .next; n = h .n; own = h .own; decided = h .de
 
 -- ---- by the parity of the view: what is read of the record, and what is stored
 
--- the record with these agreements
-abbrev pub stored : Bench → Agreement → Agreement → Bench
-stored b even odd = record {
-  n = b .n;
-  own = b .own;
-  next = b .next;
-  gathering = b .gathering;
-  even = even;
-  odd = odd;
-  proposals = b .proposals;
-  decided = b .decided;
-  parted = b .parted;
-}
-
 module _ (r : Bool) (v : ℕ) (q : r ≡ isEven v) (b : Bench) where
   pub read-even : r ≡ true → ofView (b .even) v ≡ agreementOf b v
-  unfolding agreementOf
-  read-even t = rw (← q, t)
+  read-even t = sym (agreement-even b v (sym q ∙ t))
 
   pub read-odd : r ≡ false → ofView (b .odd) v ≡ agreementOf b v
-  unfolding agreementOf
-  read-odd t = rw (← q, t)
+  read-odd t = sym (agreement-odd b v (sym q ∙ t))
 
-  pub stored-even : r ≡ true → (f g : Agreement) → f ≡ g → stored b f (b .odd) ≡ withAgreement b v g
-  unfolding withAgreement
-  stored-even t f g e = rw (← q, t, e)
+  pub keep-even : r ≡ true → (f g : Agreement) → f ≡ g → withSlots b f (b .odd) ≡ withAgreement b v g
+  keep-even t f g e = rw e (sym (stored-even b v g (sym q ∙ t)))
 
-  pub stored-odd : r ≡ false → (f g : Agreement) → f ≡ g → stored b (b .even) f ≡ withAgreement b v g
-  unfolding withAgreement
-  stored-odd t f g e = rw (← q, t, e)
+  pub keep-odd : r ≡ false → (f g : Agreement) → f ≡ g → withSlots b (b .even) f ≡ withAgreement b v g
+  keep-odd t f g e = rw e (sym (stored-odd b v g (sym q ∙ t)))
 
 -- ---- a LOG
 
@@ -108,7 +89,7 @@ module _ (names counts bytes : List ℕ) (v i : ℕ) (f : Filed) (w : Taken) (an
     filed-even t d = record {
       whole = λ p s.
           let b = benchFrom h e o p s in
-          log-filed (agreementFrom (h .even) e) b (benchFrom (evenHead h (f .marks)) ls′ o p s) (read-even r v q b t) d (stored-even r v q b t (agreementFrom (f .marks) ls′));
+          log-filed (agreementFrom (h .even) e) b (benchFrom (evenHead h (f .marks)) ls′ o p s) (read-even r v q b t) d (keep-even r v q b t (agreementFrom (f .marks) ls′));
     }
 
     pub filed-odd : r ≡ false → Files (fileOf (ofView (agreementFrom (h .odd) o) v) names counts (logsPlace v) bytes i) f ls′ ns cs
@@ -116,15 +97,10 @@ module _ (names counts bytes : List ℕ) (v i : ℕ) (f : Filed) (w : Taken) (an
     filed-odd t d = record {
       whole = λ p s.
           let b = benchFrom h e o p s in
-          log-filed (agreementFrom (h .odd) o) b (benchFrom (oddHead h (f .marks)) e ls′ p s) (read-odd r v q b t) d (stored-odd r v q b t (agreementFrom (f .marks) ls′));
+          log-filed (agreementFrom (h .odd) o) b (benchFrom (oddHead h (f .marks)) e ls′ p s) (read-odd r v q b t) d (keep-odd r v q b t (agreementFrom (f .marks) ls′));
     }
 
 -- ---- a PROPOSAL
-
-module _ (b : Bench) (v : ℕ) where
-  read-proposed : proposedIn (b .proposals) v ≡ proposalsOf b v
-  unfolding proposalsOf
-  read-proposed = refl
 
 module _ (h : Head) (p q names counts bytes : List ℕ) (v i priority : ℕ) (m : Shown) (f : FiledProposal)
     (w : Taken) (answered : takenReply w ≡ took (wordOf (f .answer))) (ls ps ls′ ps′ ns cs : List ℕ)
@@ -135,7 +111,7 @@ module _ (h : Head) (p q names counts bytes : List ℕ) (v i priority : ℕ) (m 
     whole = λ e o.
         let b = benchFrom h e o p q in
         let x : FilesProposal (fileProposalOf (proposalsOf b v) names counts proposalsPlace bytes i priority) f ls′ ps′ ns cs =
-        subst (λ (a : Proposals). FilesProposal (fileProposalOf a names counts proposalsPlace bytes i priority) f ls′ ps′ ns cs) (g ∙ read-proposed b v) d in
+        subst (λ (a : Proposals). FilesProposal (fileProposalOf a names counts proposalsPlace bytes i priority) f ls′ ps′ ns cs) (g ∙ sym (proposals-slot b v)) d in
         record {
           answered = answered ∙ ap took (x .answered);
           bench = ap {A = Proposals} {B = Bench} (withProposals b) (λ j. record { marks = x .marks j; lengths = x .lengthList j; priorities = x .priorityList j });

@@ -14,21 +14,12 @@ use Rattle.agreement.specs.Proposals.{proposalsFrom}
 use Rattle.agreement.specs.declared.Marks.{Marks}
 use Rattle.agreement.specs.declared.Shown.{Shown}
 use Rattle.agreement.proofs.MaskLaws.{member-or}
-use Rattle.agreement.proofs.LimitLaws.{some-or}
-use Rattle.agreement.proofs.SetLaws.{weigh-cong}
 use Rattle.bench.specs.Layout.{outOfRange}
 use Rattle.bench.specs.Calendar.{lastBeat}
 use Rattle.bench.specs.Record.{benchFrom, anyPlace, namesBeyond, tooLong, badSender, beyondAgreement, beyondProposals, beyond}
 use Rattle.bench.specs.declared.Head.{Head}
+use Rattle.bench.proofs.LimitLaws.{any-place, any-or, any-cong, agreement-causes, proposals-causes, beyond-causes, beyond-priorities}
 use Rattle.calls.specs.Steps.{outside, badSets}
-
-any-or : (p q : ℕ → Bool) → anyPlace (λ (i : ℕ). p i || q i) ≡ (anyPlace p || anyPlace q)
-unfolding anyPlace
-any-or p q = some-or p q
-
-any-place : (p : ℕ → Bool) → anyPlace p ≡ ltb 0 (count mostSenders p)
-unfolding anyPlace
-any-place p = refl
 
 -- ---- sets asked together
 
@@ -48,8 +39,7 @@ or-meets false y t = refl
 
 -- what holds of the places of two sets, and of one that has both
 any-both : (p q r : ℕ → Bool) → ((i : ℕ) → r i ≡ (p i || q i)) → anyPlace r ≡ (anyPlace p || anyPlace q)
-unfolding anyPlace
-any-both p q r h = ap (ltb 0) (weigh-cong mostSenders _ _ _ (λ i l. h i)) ∙ some-or p q
+any-both p q r h = any-cong r (λ (i : ℕ). p i || q i) h ∙ any-or p q
 
 module _ (n a b : ℕ) where
   beyond-both : anyPlace (namesBeyond n (bitOr a b)) ≡ (anyPlace (namesBeyond n a) || anyPlace (namesBeyond n b))
@@ -116,8 +106,9 @@ module _ (n : ℕ) (m : Marks) (lengths : List ℕ) where
 
   pub beyond-agreement : (a b : Bool) → a ≡ ltb 0 (count mostSenders (λ (i : ℕ). ltb mostBlocks (getD lengths i 0))) → b ≡ badSets n m
       → (ltb lastView (m .view) || (a || b)) ≡ beyondAgreement n (agreementFrom m lengths)
-  unfolding beyondAgreement
-  beyond-agreement a b e f = ap (λ (t : Bool). ltb lastView (m .view) || t) ((λ i. long a e i || f i) ∙ sym bad-any)
+  beyond-agreement a b e f =
+      ap (λ (t : Bool). ltb lastView (m .view) || t) ((λ i. long a e i || f i) ∙ sym bad-any)
+      ∙ sym (agreement-causes n (agreementFrom m lengths))
     where
       long : (a : Bool) → a ≡ ltb 0 (count mostSenders (λ (i : ℕ). ltb mostBlocks (getD lengths i 0))) → a ≡ anyPlace (tooLong lengths)
       long a e = e ∙ sym (any-place (tooLong lengths))
@@ -126,11 +117,11 @@ module _ (n : ℕ) (m : Shown) (lengths : List ℕ) where
   pub beyond-proposals : (a b : Bool) → a ≡ ltb 0 (count mostSenders (λ (i : ℕ). ltb mostBlocks (getD lengths i 0)))
       → b ≡ ltb 0 (count mostSenders (λ (i : ℕ). leb n i && member (bitOr (m .filed) (m .aside)) i))
       → (ltb lastView (m .view) || (a || b)) ≡ beyondProposals n (proposalsFrom m lengths [])
-  unfolding beyondProposals
   beyond-proposals a b e f =
       ap (λ (t : Bool). ltb lastView (m .view) || t)
       ((λ i. (e ∙ sym (any-place (tooLong lengths))) i || reaches-both n (m .filed) (m .aside) b f i)
       ∙ sym (any-or (tooLong lengths) _ ∙ ap (λ (t : Bool). anyPlace (tooLong lengths) || t) (any-or (namesBeyond n (m .filed)) (namesBeyond n (m .aside)))))
+      ∙ sym (proposals-causes n (proposalsFrom m lengths []))
 
 -- ---- the causes together
 
@@ -138,10 +129,8 @@ pub beyond-limits : (h : Head) (e o p : List ℕ) (range even odd proposals : Bo
     → even ≡ beyondAgreement (h .n) (agreementFrom (h .even) e) → odd ≡ beyondAgreement (h .n) (agreementFrom (h .odd) o)
     → proposals ≡ beyondProposals (h .n) (proposalsFrom (h .shown) p [])
     → (range || (ltb (lastBeat + 1) (h .next) || (ltb mostBlocks (h .decided) || (even || (odd || proposals))))) ≡ beyond (benchFrom h e o p [])
-unfolding beyond
-beyond-limits h e o p range even odd proposals a b c d = rw (a, b, c, d)
+beyond-limits h e o p range even odd proposals a b c d = rw (a, b, c, d) (sym (beyond-causes (benchFrom h e o p [])))
 
 -- priorities do not matter
 pub beyond-of : (h : Head) (e o p priorities : List ℕ) → beyond (benchFrom h e o p []) ≡ beyond (benchFrom h e o p priorities)
-unfolding beyond beyondProposals
-beyond-of h e o p priorities = refl
+beyond-of h e o p priorities = beyond-priorities (benchFrom h e o p []) priorities

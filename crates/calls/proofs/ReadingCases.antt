@@ -1,7 +1,7 @@
 -- What an act reads, with its counts, case by case as the code finds it. Assumes nothing.
-use Prim.Native.Nat.{ℕ, zero, suc, _-_, _≤_, _<_}
+use Prim.Native.Nat.{ℕ, _-_, _≤_, _<_}
 use native.Mathlib.Omega.{arith}
-use mathlib.Core.Bool.{Bool, true, false, _||_}
+use mathlib.Core.Bool.{Bool, true, false}
 use mathlib.Core.List.{List, []}
 use mathlib.Core.Option.{Option, some, none}
 use mathlib.Core.Path.{_≡_, refl, sym, ap, subst, _∙_}
@@ -11,7 +11,7 @@ use Rattle.message.specs.Logs.{Log}
 use Rattle.message.proofs.ListedLaws.{log-empty}
 use Rattle.agreement.specs.Limits.{mostSenders, placeOf}
 use Rattle.agreement.specs.Sets.{count}
-use Rattle.agreement.specs.Record.{Agreement, agreementFrom, isSender}
+use Rattle.agreement.specs.Record.{Agreement, agreementFrom, emptyAgreement, isSender}
 use Rattle.agreement.specs.Grades.{snapshotFor, logOf, Placed, Gives}
 use Rattle.agreement.specs.Tally.{supportersOf, supportersAt}
 use Rattle.agreement.specs.declared.Marks.{Marks}
@@ -29,6 +29,7 @@ use Rattle.bench.specs.Answers.{heldWith}
 use Rattle.bench.specs.Readings.{agreementBefore, readOfGrade, amongOfGrade, orEmpty, sendersRead, supportersRead, ReadingGives}
 use Rattle.bench.specs.declared.Head.{Head}
 use Rattle.bench.specs.declared.Counted.{Counted}
+use Rattle.bench.proofs.ActLaws.{before-first, before-later, same-before}
 use Rattle.calls.specs.Steps.{bare, CountsIn}
 use Rattle.calls.proofs.FilingCases.{read-even, read-odd}
 use Rattle.calls.proofs.SeeingLaws.{used-whole, grade-read, late-act}
@@ -84,11 +85,6 @@ module _ (names counts : List ℕ) (base v k : ℕ) (m : Marks) (lengths : List 
 
 -- ---- what the act reads
 
-later-before : (b : Bench) (v : ℕ) → (v ≡ 0 → ⊥) → agreementOf b (v - 1) ≡ agreementBefore b v
-unfolding agreementBefore
-later-before b zero h = absurd (h refl)
-later-before b (suc u) h = ap (agreementOf b) (omega arith)
-
 -- the counts of an agreement, by the grade that is read
 abbrev heard : Agreement → Option ℕ → ℕ
 heard g o = count mostSenders (isSender (readOfGrade g o))
@@ -96,12 +92,11 @@ heard g o = count mostSenders (isSender (readOfGrade g o))
 abbrev behind : List ℕ → List ℕ → ℕ → Agreement → Log → Option ℕ → ℕ
 behind names counts base g L o = supportersOf names counts base (readOfGrade g o) (amongOfGrade (readOfGrade g o) o) L
 
--- in view 0 nothing was before
-first-none : (names counts : List ℕ) (base : ℕ) (b : Bench) (L : Log) (o : Option ℕ)
-    → (heard (agreementBefore b 0) o ≡ 0) × (behind names counts base (agreementBefore b 0) L o ≡ 0)
-unfolding agreementBefore
-first-none names counts base b L none = (empty-senders 0, empty-supporters names counts base 0 _ L)
-first-none names counts base b L (some k) = (empty-senders 0, empty-supporters names counts base 0 _ L)
+-- in an empty one nobody is heard
+none-heard : (names counts : List ℕ) (base : ℕ) (L : Log) (o : Option ℕ)
+    → (heard (emptyAgreement 0) o ≡ 0) × (behind names counts base (emptyAgreement 0) L o ≡ 0)
+none-heard names counts base L none = (empty-senders 0, empty-supporters names counts base 0 _ L)
+none-heard names counts base L (some k) = (empty-senders 0, empty-supporters names counts base 0 _ L)
 
 module _ (h : Head) (e o names counts : List ℕ) (v place : ℕ) (r : Grade) where
   abbrev b : Bench
@@ -129,14 +124,15 @@ module _ (h : Head) (e o names counts : List ℕ) (v place : ℕ) (r : Grade) wh
     pub read-first : v ≡ 0 → Reads (record { grade = r; supporters = 0; senders = 0 })
     read-first z =
         nobody
-        (subst (λ (k : ℕ). (heard (agreementBefore b k) (gradeRead (actAt place)) ≡ 0)
-        × (behind names counts (logsPlace (v - 1)) (agreementBefore b k) (orEmpty (usedOf s v (actAt place))) (gradeRead (actAt place)) ≡ 0))
-        (sym z) (first-none names counts (logsPlace (v - 1)) b (orEmpty (usedOf s v (actAt place))) (gradeRead (actAt place))))
+        (subst (λ (g : Agreement). (heard g (gradeRead (actAt place)) ≡ 0)
+        × (behind names counts (logsPlace (v - 1)) g (orEmpty (usedOf s v (actAt place))) (gradeRead (actAt place)) ≡ 0))
+        (sym (ap (agreementBefore b) z ∙ before-first b))
+        (none-heard names counts (logsPlace (v - 1)) (orEmpty (usedOf s v (actAt place))) (gradeRead (actAt place))))
 
     module _ (later : v ≡ 0 → ⊥) (few : place ≤ 2) (base : ℕ) (at : base ≡ logsPlace (v - 1)) (x : Bool) (q : x ≡ isEven (v - 1)) (c : Counted) where
       counted : (g : Agreement) → g ≡ agreementOf b (v - 1) → CountsIn names counts base g place r c → Reads c
       counted g y w =
-          let before : g ≡ agreementBefore b v = y ∙ later-before b v later in
+          let before : g ≡ agreementBefore b v = y ∙ sym (before-later b v later) in
           let asked : some place ≡ gradeRead (actAt place) = sym (grade-read place few) in
           record {
             grade = subst (Gives (usedOf s v (actAt place)) names counts (logsPlace (v - 1))) (sym (w .same)) u;
@@ -165,16 +161,12 @@ read-now h e o names counts beat c at w =
     subst (λ (k : ℕ). ReadingGives (heldWith (benchFrom h e o [] []) names counts) (viewOf k) (actAt (placeIn k)) c) at w
 
 -- the proposals do not matter
-before-whole : (h : Head) (e o p q : List ℕ) (v : ℕ) → agreementBefore (benchFrom h e o [] []) v ≡ agreementBefore (benchFrom h e o p q) v
-unfolding agreementBefore agreementOf
-before-whole h e o p q zero = refl
-before-whole h e o p q (suc u) = refl
-
 pub read-whole : (h : Head) (e o p q names counts : List ℕ) (v : ℕ) (a : Act) (c : Counted) → ReadingGives (heldWith (benchFrom h e o [] []) names counts) v a c
     → ReadingGives (heldWith (benchFrom h e o p q) names counts) v a c
 read-whole h e o p q names counts v a c w =
     let x : usedOf (heldWith (benchFrom h e o [] []) names counts) v a ≡ usedOf (heldWith (benchFrom h e o p q) names counts) v a = used-whole h e o p q names counts v a in
-    let y : agreementBefore (benchFrom h e o [] []) v ≡ agreementBefore (benchFrom h e o p q) v = before-whole h e o p q v in
+    let y : agreementBefore (benchFrom h e o [] []) v ≡ agreementBefore (benchFrom h e o p q) v =
+    same-before (benchFrom h e o p q) (benchFrom h e o [] []) v refl refl in
     record {
       grade = record { log = w .grade .log ∙ x; placed = w .grade .placed };
       supporters = w .supporters

@@ -11,41 +11,38 @@ use Rattle.message.proofs.Readings.{read-as-log, read-as-proposal, read-as-refu
 use Rattle.bench.specs.Calendar.{logWindow, proposalWindow}
 use Rattle.bench.specs.Calls.{Step}
 use Rattle.bench.specs.Record.{Bench, benchFrom, beatOf}
-use Rattle.bench.specs.ByRecord.{refuse, fileMessage, receives}
-use Rattle.bench.specs.Answers.{heldWith, takenReply, ReceiveGives}
+use Rattle.bench.specs.ByRecord.{refuse, receives}
+use Rattle.bench.specs.Answers.{heldWith, ReceiveGives}
 use Rattle.bench.specs.declared.Head.{Head}
 use Rattle.bench.specs.declared.Taken.the-variants as takings
 use Rattle.bench.specs.declared.ReceivedHead.{ReceivedHead}
+use Rattle.bench.proofs.Replies.{taken-refused}
+use Rattle.bench.proofs.ActLaws.{file-log, file-proposal}
 use Rattle.calls.specs.Steps.{bare, LogFiled, LogTaken, ProposalFiled, ProposalTaken}
 
 -- refused by k: all is as it was
 pub receive-by : (b : Bench) (names counts : List ℕ) (k : ℕ) (t : Step) → t ≡ refuse (heldWith b names counts) [] k
     → ReceiveGives t (takings.Refused k) b names counts
-unfolding takenReply
-receive-by b names counts k t o = rw o (record { answered = refl; bench = refl; nameList = refl; countList = refl })
+receive-by b names counts k t o = rw o (record { answered = taken-refused k; bench = refl; nameList = refl; countList = refl })
 
 -- ---- by its window
 
 module _ (h : Head) (names counts bytes : List ℕ) (head : message.Head) (beat : ℕ) (r : Bool) (now : beat ≡ beatOf (bare h)) where
   module _ (e o : List ℕ) (q : r ≡ logWindow (head .view) beat) where
     pub log-shut : r ≡ false → LogTaken h e o names counts bytes head (record { answer = takings.Refused 21; head = h }) e o names counts
-    unfolding takenReply
-    log-shut t = record { whole = λ p s. rw (← now, ← q, t) (record { answered = refl; bench = refl; nameList = refl; countList = refl }) }
+    log-shut t = record { whole = λ p s. rw (← now, ← q, t) (record { answered = taken-refused 21; bench = refl; nameList = refl; countList = refl }) }
 
     pub log-taken : (x : ReceivedHead) (e′ o′ ns cs : List ℕ) → r ≡ true → LogFiled h e o names counts bytes (head .view) (head .sender) x e′ o′ ns cs
         → LogTaken h e o names counts bytes head x e′ o′ ns cs
-    unfolding fileMessage
-    log-taken x e′ o′ ns cs t f = record { whole = λ p s. rw (← now, ← q, t) (f .whole p s) }
+    log-taken x e′ o′ ns cs t f = record { whole = λ p s. rw (← now, ← q, t, file-log) (f .whole p s) }
 
   module _ (p s : List ℕ) (priority : ℕ) (q : r ≡ proposalWindow (head .view) beat) where
     pub proposal-shut : r ≡ false → ProposalTaken h p s names counts bytes head priority (record { answer = takings.Refused 21; head = h }) p s names counts
-    unfolding takenReply
-    proposal-shut t = record { whole = λ e o. rw (← now, ← q, t) (record { answered = refl; bench = refl; nameList = refl; countList = refl }) }
+    proposal-shut t = record { whole = λ e o. rw (← now, ← q, t) (record { answered = taken-refused 21; bench = refl; nameList = refl; countList = refl }) }
 
     pub proposal-taken : (x : ReceivedHead) (p′ s′ ns cs : List ℕ) → r ≡ true
         → ProposalFiled h p s names counts bytes (head .view) (head .sender) priority x p′ s′ ns cs → ProposalTaken h p s names counts bytes head priority x p′ s′ ns cs
-    unfolding fileMessage
-    proposal-taken x p′ s′ ns cs t f = record { whole = λ e o. rw (← now, ← q, t) (f .whole e o) }
+    proposal-taken x p′ s′ ns cs t f = record { whole = λ e o. rw (← now, ← q, t, file-proposal) (f .whole e o) }
 
 -- ---- by what was read
 

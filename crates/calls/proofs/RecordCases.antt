@@ -2,7 +2,7 @@
 use Prim.Native.Nat.{ℕ, _+_}
 use mathlib.Core.Bool.{Bool, true, false}
 use mathlib.Core.List.{List}
-use mathlib.Core.Path.{_≡_, _∙_}
+use mathlib.Core.Path.{_≡_, sym, _∙_}
 use borrow.Author.Tests.{eq-eqb, ne-eqb}
 use lib.ListN.{replicate}
 use Rattle.agreement.specs.Limits.{mostSenders, span}
@@ -15,6 +15,7 @@ use Rattle.bench.specs.Calendar.{logsShut, proposalsShut}
 use Rattle.bench.specs.Record.{benchFrom, freshBench, ofView, proposedIn}
 use Rattle.bench.specs.ByRecord.{keptAgreement, keptProposals, begunBench}
 use Rattle.bench.specs.declared.Head.{Head}
+use Rattle.bench.proofs.Slots.{agreement-forgotten, agreement-kept, proposals-forgotten, proposals-kept}
 
 -- ---- fresh, and begun
 
@@ -82,19 +83,16 @@ module _ (r : Bool) (v : ℕ) (e : r ≡ isEven v) where
 module _ (r : Bool) (beat : ℕ) where
   pub forgets : (m k : Marks) (lengths ls : List ℕ) → r ≡ logsShut (m .view) beat → r ≡ true → ls ≡ replicate mostSenders 0 → k ≡ emptyMarks 0
       → agreementFrom k ls ≡ keptAgreement beat (agreementFrom m lengths)
-  unfolding keptAgreement
-  forgets m k lengths ls e t f g = rw (← e, t) (λ i. agreementFrom (g i) (f i))
+  forgets m k lengths ls e t f g = (λ i. agreementFrom (g i) (f i)) ∙ sym (agreement-forgotten beat (agreementFrom m lengths) (sym e ∙ t))
 
   pub keeps : (m : Marks) (lengths : List ℕ) → r ≡ logsShut (m .view) beat → r ≡ false → agreementFrom m lengths ≡ keptAgreement beat (agreementFrom m lengths)
-  unfolding keptAgreement
-  keeps m lengths e t = rw (← e, t)
+  keeps m lengths e t = sym (agreement-kept beat (agreementFrom m lengths) (sym e ∙ t))
 
   pub forgets-proposals : (m k : Shown) (lengths priorities ls ps : List ℕ) → r ≡ proposalsShut (m .view) beat → r ≡ true → ls ≡ replicate mostSenders 0
       → ps ≡ replicate mostSenders 0 → k ≡ emptyShown 0 → proposalsFrom k ls ps ≡ keptProposals beat (proposalsFrom m lengths priorities)
-  unfolding keptProposals
-  forgets-proposals m k lengths priorities ls ps e t f g h = rw (← e, t) (λ i. proposalsFrom (h i) (f i) (g i))
+  forgets-proposals m k lengths priorities ls ps e t f g h =
+      (λ i. proposalsFrom (h i) (f i) (g i)) ∙ sym (proposals-forgotten beat (proposalsFrom m lengths priorities) (sym e ∙ t))
 
   pub keeps-proposals : (m : Shown) (lengths priorities : List ℕ) → r ≡ proposalsShut (m .view) beat → r ≡ false
       → proposalsFrom m lengths priorities ≡ keptProposals beat (proposalsFrom m lengths priorities)
-  unfolding keptProposals
-  keeps-proposals m lengths priorities e t = rw (← e, t)
+  keeps-proposals m lengths priorities e t = sym (proposals-kept beat (proposalsFrom m lengths priorities) (sym e ∙ t))

@@ -36,6 +36,8 @@ use Rattle.bench.specs.Record.{Bench, benchFrom, ofView, agreementOf, proposedI
 use Rattle.bench.specs.ByRecord.{usedOf, seenOf}
 use Rattle.bench.specs.Answers.{lentAs, heldWith}
 use Rattle.bench.specs.Tested.{Usable}
+use Rattle.bench.proofs.ActLaws.{usedOf-first, usedOf-later, usedOf-snapping, same-used}
+use Rattle.bench.proofs.Slots.{proposals-slot}
 use Rattle.bench.proofs.TestedLaws.{within-limits, lists-roomy, before-within}
 use Rattle.bench.proofs.Buffer.{proposed-short}
 use Rattle.bench.proofs.Filling.{logs-low}
@@ -98,33 +100,21 @@ module _ (h : Head) (e o names counts : List ℕ) (v place : ℕ) where
   abbrev Used : Grade → Type 0
   Used r = Gives (usedOf (heldWith b names counts) v (actAt place)) names counts (logsPlace (v - 1)) r
 
-  used-none : (o : Option Log) → usedOf (heldWith b names counts) v (actAt place) ≡ none → Used Nothing
-  used-none o q = record { log = sym q; placed = tt }
-
-  snapping-none : (u : ℕ) → usedOf (heldWith b names counts) u snapping ≡ none
-  unfolding usedOf
-  snapping-none zero = refl
-  snapping-none (suc u) = refl
-
   pub used-late : 2 < place → Used Nothing
-  used-late l = record { log = sym (ap (usedOf (heldWith b names counts) v) (late-act place l) ∙ snapping-none v); placed = tt }
+  used-late l = record {
+    log = sym (ap (usedOf (heldWith b names counts) v) (late-act place l) ∙ usedOf-snapping (heldWith b names counts) v);
+    placed = tt;
+  }
 
   pub used-first : v ≡ 0 → place < 2 → Used (Longest 0 0)
-  unfolding usedOf
-  used-first z l = rw (z, first-used place l) (empty-given names counts (logsPlace 0))
+  used-first z l = rw (z, usedOf-first, first-used place l) (empty-given names counts (logsPlace 0))
 
   pub used-not-first : v ≡ 0 → 2 ≤ place → Used Nothing
-  unfolding usedOf
-  used-not-first z l = rw (z, first-unused place l) (record { log = refl; placed = tt })
+  used-not-first z l = rw (z, usedOf-first, first-unused place l) (record { log = refl; placed = tt })
 
   module _ (later : v ≡ 0 → ⊥) (few : place ≤ 2) (base : ℕ) (at : base ≡ logsPlace (v - 1)) (x : Bool) (q : x ≡ isEven (v - 1)) (r : Grade) where
     used-later : gradeOf names counts (logsPlace (v - 1)) (agreementOf b (v - 1)) place ≡ usedOf (heldWith b names counts) v (actAt place)
-    unfolding usedOf
-    used-later = go v later
-      where
-        go : (v : ℕ) → (v ≡ 0 → ⊥) → gradeOf names counts (logsPlace (v - 1)) (agreementOf b (v - 1)) place ≡ usedOf (heldWith b names counts) v (actAt place)
-        go zero n = absurd (n refl)
-        go (suc u) n = let y : suc u - 1 ≡ u = omega arith in rw (grade-read place few, y)
+    used-later = rw (usedOf-later (heldWith b names counts) v (actAt place) later, grade-read place few)
 
     given : (g : Agreement) → g ≡ agreementOf b (v - 1) → Gives (gradeOf names counts base g place) names counts base r → Used r
     given g y w = record {
@@ -141,9 +131,8 @@ module _ (h : Head) (e o names counts : List ℕ) (v place : ℕ) where
 -- no array but those of the agreements matters to it
 used-same : (h : Head) (e o p s p′ s′ names counts : List ℕ) (v : ℕ) (a : Act)
     → usedOf (heldWith (benchFrom h e o p s) names counts) v a ≡ usedOf (heldWith (benchFrom h e o p′ s′) names counts) v a
-unfolding usedOf agreementOf
-used-same h e o p s p′ s′ names counts zero a = refl
-used-same h e o p s p′ s′ names counts (suc u) a = refl
+used-same h e o p s p′ s′ names counts v a =
+    same-used (heldWith (benchFrom h e o p′ s′) names counts) (heldWith (benchFrom h e o p s) names counts) v a refl refl refl
 
 -- ---- the proposals of the view
 
@@ -213,8 +202,7 @@ module _ (h : Head) (e o p s names counts : List ℕ) (v : ℕ) where
       short = proposed-short (benchFrom h e o p s) (within-limits (benchFrom h e o p s) (u .limits) .1) v
 
       choice-is : choiceOf names counts proposalsPlace filed a k ≡ chosen choice
-      unfolding proposalsOf
-      choice-is = sym (w .sender)
+      choice-is = rw proposals-slot (sym (w .sender))
 
       -- the log that a choice stands for
       abbrev votedFor : Choice → Log
@@ -231,10 +219,10 @@ module _ (h : Head) (e o p s names counts : List ℕ) (v : ℕ) where
 
       -- a proposal that is voted for is of the view, so its length stands in the array
       own-length : (j : ℕ) → choice ≡ Proposal j → getD p j 0 ≡ getD (filed .lengths) j 0
-      unfolding proposalsOf
       own-length j c =
-          either (eqb (h .shown .view) v) (λ q. rw q)
-          (λ q. absurd (Option·none-ne-some j (sym (empty-choice names counts proposalsPlace v a k) ∙ sym (rw q at w .sender) ∙ ap chosen c)))
+          rw proposals-slot
+          (either (eqb (h .shown .view) v) (λ q. rw q)
+          (λ q. absurd (Option·none-ne-some j (sym (empty-choice names counts proposalsPlace v a k) ∙ sym (rw q at w .sender) ∙ ap chosen c))))
 
       pub ballot-proposal : (j : ℕ) → choice ≡ Proposal j → Finds (ballotOf whole v) names counts (At (proposalsPlace + mostBlocks * j) (getD p j 0))
       ballot-proposal j c =

@@ -31,6 +31,8 @@ use Rattle.bench.specs.declared.Taken.{Taken}
 use Rattle.bench.specs.declared.Made.{Made}
 use Rattle.bench.specs.declared.ReceivedHead.{ReceivedHead}
 use Rattle.bench.specs.declared.Made.the-variants as makings
+use Rattle.bench.proofs.Replies.{made-log, made-proposal}
+use Rattle.bench.proofs.ActLaws.{file-log, file-proposal}
 use Rattle.bench.proofs.TestedLaws.{before-within}
 
 -- it can be written, and the buffer has room for it
@@ -76,9 +78,9 @@ module _ (out : List ℕ) (m : Meaning) (w : Makeable out m) (s : State) (v i : 
 
 -- by its kind
 filed-same : (out : List ℕ) (m : Meaning) → Makeable out m → (s : State) → fileMessage s (put out 0 (bytesOf m)) m ≡ fileMessage s (bytesOf m) m
-unfolding fileMessage
-filed-same out (logMessage m) w s = log-filed out (logMessage m) w s (m .view) (m .sender)
-filed-same out (proposalMessage m priority) w s = proposal-filed out (proposalMessage m priority) w s (m .view) (m .sender) priority
+filed-same out (logMessage m) w s = rw (file-log s _ m, file-log s _ m) (log-filed out (logMessage m) w s (m .view) (m .sender))
+filed-same out (proposalMessage m priority) w s =
+    rw (file-proposal s _ m, file-proposal s _ m) (proposal-filed out (proposalMessage m priority) w s (m .view) (m .sender) priority)
 
 -- ---- the answer, as it is read from the buffer
 
@@ -90,16 +92,16 @@ content-read out m k w e =
 
 log-reply : (out : List ℕ) (m : Content) (k : ℕ) → Makeable out (logMessage m) → length (m .log) ≡ k
     → madeReply (put out 0 (bytesOf (logMessage m))) (makings.Log k) ≡ acted (some (logMessage m))
-unfolding madeReply
-log-reply out m k w e = ap (λ (c : Content). acted (some (logMessage c))) (content-read out (logMessage m) k w e)
+log-reply out m k w e =
+    made-log (put out 0 (bytesOf (logMessage m))) k
+    ∙ ap (λ (c : Content). acted (some (logMessage c))) (content-read out (logMessage m) k w e)
 
 proposal-reply : (out : List ℕ) (m : Content) (priority k : ℕ) → Makeable out (proposalMessage m priority) → priority < 256 ^ 8 → length (m .log) ≡ k
     → madeReply (put out 0 (bytesOf (proposalMessage m priority))) (makings.Proposal k) ≡ acted (some (proposalMessage m priority))
-unfolding madeReply
 proposal-reply out m priority k w h e =
     let c = content-read out (proposalMessage m priority) k w e in
     let p = priority-made out m priority (w .room) h in
-    λ i. acted (some (proposalMessage (c i) (p i)))
+    made-proposal (put out 0 (bytesOf (proposalMessage m priority))) k ∙ (λ i. acted (some (proposalMessage (c i) (p i))))
 
 -- ---- written, filed from the buffer and answered
 
@@ -132,14 +134,13 @@ module _ (h : Head) (names counts out : List ℕ) (v a k : ℕ) (hn : (i : ℕ) 
   module _ (e d e′ d′ : List ℕ) where
     pub log-acts : Making names counts out v a k → Writes (writeLogOf out names counts a k (h .own) v) r o → LogFiled h e d names counts o v (h .own) f e′ d′ ns cs
         → LogMade h e d names counts out v a k (record { answer = makings.Log k; head = f .head }) e′ d′ ns cs o
-    unfolding fileMessage
     log-acts p x y =
         let m : Content = record { sender = h .own; view = v; log = L } in
         let l = length-at names counts a k in
         let few = p .before .1 in
         let w = makeable p (logMessage m) (omega arith) refl names-fit counts-fit in
         let z = written-inside (roomFor out names counts a k k) out (logMessage m) r o (made-room p k few) x .1 in
-        record { whole = λ q s. made-acts (heldWith (benchFrom h e d q s) names counts) out (logMessage m) w (makings.Log k) o (f .answer) (benchFrom (f .head) e′ d′ q s) ns cs z (log-reply out m k w l) (y .whole q s) }
+        record { whole = λ q s. made-acts (heldWith (benchFrom h e d q s) names counts) out (logMessage m) w (makings.Log k) o (f .answer) (benchFrom (f .head) e′ d′ q s) ns cs z (log-reply out m k w l) (rw file-log (y .whole q s)) }
 
   module _ (q s q′ s′ : List ℕ) where
     pub proposal-acts : (name count priority : ℕ) → Fits w64 name → Fits w16 count → Fits w64 priority
@@ -147,7 +148,6 @@ module _ (h : Head) (names counts out : List ℕ) (v a k : ℕ) (hn : (i : ℕ) 
         → Writes (writeProposalOf out names counts a k (record { name = name; count = count }) (h .own) v priority) r o
         → ProposalFiled h q s names counts o v (h .own) priority f q′ s′ ns cs
         → ProposalMade h q s names counts out v a k (record { name = name; count = count }) priority (record { answer = makings.Proposal (k + 1); head = f .head }) q′ s′ ns cs o
-    unfolding fileMessage
     proposal-acts name count priority tn tc tp (p, few) x y =
         let block : Block = record { name = name; count = count } in
         let m : Content = record { sender = h .own; view = v; log = L ++ (block ∷ []) } in
@@ -163,5 +163,5 @@ module _ (h : Head) (names counts out : List ℕ) (v a k : ℕ) (hn : (i : ℕ) 
         record {
           whole = λ e d.
               made-acts (heldWith (benchFrom h e d q s) names counts) out (proposalMessage m priority) w (makings.Proposal (k + 1)) o (f .answer) (benchFrom (f .head) e d q′ s′) ns cs z
-              (proposal-reply out m priority (k + 1) w (tp .fits) l) (y .whole e d);
+              (proposal-reply out m priority (k + 1) w (tp .fits) l) (rw file-proposal (y .whole e d));
         }
