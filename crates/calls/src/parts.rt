@@ -6,7 +6,6 @@ ghost use Rattle.bench.specs.Record.{benchFrom, beatOf};
 ghost use Rattle.bench.specs.ByRecord.{beginOf, receiveOf, actOf};
 ghost use Rattle.bench.specs.Answers.{heldWith, BeginGives, ReceiveGives, ActGives};
 ghost use Rattle.bench.specs.Readings.{ReadingGives};
-ghost use Rattle.calls.specs.Steps.{bare};
 use super::acts::act_at;
 use super::beginning::begun;
 use super::filing::take;
@@ -167,7 +166,8 @@ pub fn act(
 // and nothing changes.
 pub fn reading(h: Head, even: &[u8; 32], odd: &[u8; 32], names: &[u64], counts: &[u16]) -> Counted
     ensures { λ r. ⌜ ReadingGives (heldWith (benchFrom h (now (even .entry)) (now (odd .entry)) [] []) (now (names .entry)) (now (counts .entry)))
-        (viewOf (beatOf (bare h))) (actAt (placeIn (beatOf (bare h)))) r ⌝ }
+        (viewOf (beatOf (benchFrom h (now (even .entry)) (now (odd .entry)) [] [])))
+        (actAt (placeIn (beatOf (benchFrom h (now (even .entry)) (now (odd .entry)) [] [])))) r ⌝ }
 {
     let beat = beat_of(h);
     read_at(h, even, odd, names, counts, beat / 4, (beat % 4) as u8)
