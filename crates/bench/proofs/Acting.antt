@@ -5,22 +5,23 @@ use mathlib.Core.Bool.{Bool, true, false, not, _||_}
 use mathlib.Core.List.{List, [], _∷_, _++_}
 use mathlib.Core.Option.{Option, some, none, Option·none-ne-some, Option·some-injective}
 use mathlib.Core.Path.{_≡_, refl, sym, ap, subst, _∙_}
-use borrow.Author.Tests.{leb-true, leb-false, le-leb}
-use lib.Dec.{eqb, ltb}
-use lib.ListN.{length}
+use borrow.Author.Tests.{leb-true, leb-false, le-leb, not-false}
+use lib.Dec.{eqb}
 use Rattle.message.specs.Logs.{Block, Log}
 use Rattle.message.specs.Message.{Meaning, proposalMessage, bytesOf}
 use Rattle.message.specs.Store.{logAt}
 use Rattle.message.proofs.GoodLogs.{GoodLog}
 use Rattle.message.proofs.TestLaws.{either}
+use Rattle.message.proofs.CauseLaws.{passes}
 use Rattle.message.proofs.Codec.{read-written}
 use Rattle.agreement.specs.Record.{SnapshotNumber, one, two, withSnapshot}
 use Rattle.agreement.specs.Sets.{isYes}
 use Rattle.bench.specs.Terms.{Seat}
-use Rattle.bench.specs.Layout.{decidedPlace, mostBytes}
+use Rattle.bench.specs.Layout.{decidedPlace}
 use Rattle.bench.specs.Calendar.{lastView, viewBeat, inputBeat, snapshotBeat, snapshotTaken, closeBeat, viewOf, placeIn, Act, actAt}
 use Rattle.bench.specs.Calls.{act, acted, openTo, Typed, State}
 use Rattle.bench.specs.Acts.{Seen, mayPropose, isView, propose, vote, makes, outAfter, decides}
+use Rattle.bench.specs.Causes.{actCauses}
 use Rattle.bench.specs.History.{History, beatNow, refusal, seenAt, madeBy, decidedBy, fileMade, closed, accepted, answer, acceptedAnswer, standIn}
 use Rattle.bench.specs.Record.{agreementOf, proposalsOf, beatOf, idle, Bench}
 use Rattle.bench.specs.ByRecord.{usedOf, seenOf, snappedBy, snapped, changed, withMade, actedOf, over, actOf}
@@ -32,7 +33,7 @@ use Rattle.bench.proofs.HistoryActs.{views-some}
 use Rattle.bench.proofs.GoodHistory.{decided-good, made-good}
 use Rattle.bench.proofs.Ties.{Filled, lastOf, Tie}
 use Rattle.bench.proofs.FilingTies.{file-tie}
-use Rattle.bench.proofs.CallTies.{Agrees, both-refuse, both-accept, in-limits, long-lists, beat-same, started, carries-read}
+use Rattle.bench.proofs.CallTies.{Agrees, agrees-by, beat-same, idle-same, started, carries-read}
 use Rattle.bench.proofs.SeenTies.{makes-same, decides-same}
 use Rattle.bench.proofs.Settling.{Settled, decision-settled}
 use Rattle.bench.proofs.ActTies.{NoneOf, quiet-filled, snapshot-filled}
@@ -196,27 +197,23 @@ module _ (S : Seat) (s : State) (p : History) (t : Tie S s p) (busy : p .gatheri
       next-kept : changed (over s) (viewOf beat) (actAt (placeIn beat)) .bench .next ≡ s .bench .next
       next-kept = last-injective _ (s .bench .next) (changes .last-is ∙ sym (t .last-is))
 
-      act-accepted : (out : List ℕ) → refusal S p (act block priority out) ≡ none
-          → Agrees S s p (act block priority out) (actedOf (over s) block priority out (viewOf beat) (actAt (placeIn beat)))
+      act-accepted : (out : List ℕ)
+          → (actedOf (over s) block priority out (viewOf beat) (actAt (placeIn beat)) .answer ≡ acceptedAnswer S p (act block priority out))
+          × Tie S (actedOf (over s) block priority out (viewOf beat) (actAt (placeIn beat)) .held) (accepted S p (act block priority out))
       unfolding actedOf accepted acceptedAnswer
-      act-accepted out ok =
-          let e = made-same in
-          both-accept S s p t (act block priority out) (actedOf (over s) block priority out (viewOf beat) (actAt (placeIn beat))) ok
-          (λ i. record { reply = acted (e i); out = outAfter (e i) out })
-          (subst (λ (o : Option Meaning). Tie S (withMade (changed (over s) (viewOf beat) (actAt (placeIn beat))) o) (fileMade (closed p (madeBy S p block priority) (decidedBy S p)) (madeBy S p block priority))) (sym e)
-          (filed-tie (changed (over s) (viewOf beat) (actAt (placeIn beat))) (closed p (madeBy S p block priority) (decidedBy S p)) changes next-kept (madeBy S p block priority) refl))
+      act-accepted out =
+          let e = made-same in (
+            (λ i. record { reply = acted (e i); out = outAfter (e i) out }),
+            subst (λ (o : Option Meaning). Tie S (withMade (changed (over s) (viewOf beat) (actAt (placeIn beat))) o) (fileMade (closed p (madeBy S p block priority) (decidedBy S p)) (madeBy S p block priority))) (sym e)
+                (filed-tie (changed (over s) (viewOf beat) (actAt (placeIn beat))) (closed p (madeBy S p block priority) (decidedBy S p)) changes next-kept (madeBy S p block priority) refl),
+          )
 
 pub act-agrees : (S : Seat) (s : State) (p : History) → Tie S s p → (block : Block) (priority : ℕ) (out : List ℕ) → Typed (act block priority out)
     → Agrees S s p (act block priority out) (actOf s block priority out)
-unfolding actOf refusal answer
+unfolding actOf refusal
 act-agrees S s p t block priority out typed =
-    either (ltb (length out) mostBytes)
-    (λ e. rw (in-limits t, long-lists t, e) (both-refuse S s p t (act block priority out) out 11 (rw e) (rw e)))
-    (λ e. either (idle (s .bench))
-    (λ i.
-    let g : p .gathering ≡ false = sym (t .gathering-is) ∙ ap not i in
-    rw (in-limits t, long-lists t, e, i) (both-refuse S s p t (act block priority out) out 22 (rw (e, g)) (rw (e, g))))
-    (λ i.
-    let g : p .gathering ≡ true = sym (t .gathering-is) ∙ ap not i in
-    rw (in-limits t, long-lists t, e, i)
-    (act-accepted S s p t g block priority (typed .0, typed .1, typed .2) out (rw (e, g)))))
+    let same = idle-same t in
+    agrees-by S s p t (act block priority out) (actCauses out (idle (s .bench))) (actedOf (over s) block priority out (viewOf (beatOf (s .bench))) (actAt (placeIn (beatOf (s .bench)))))
+    (rw same) (λ e.
+    let (short, (i, end)) = passes (actCauses out (idle (s .bench))) e in
+    act-accepted S s p t (not-false (p .gathering) (sym same ∙ i)) block priority (typed .0, typed .1, typed .2) out)

@@ -13,8 +13,9 @@ use lib.Dec.{eqb, ltb}
 use lib.ListN.{length, getD, drop, length-append}
 use Rattle.message.specs.Limits.{mostBlocks, lastView}
 use Rattle.message.specs.Logs.{Block, Log}
-use Rattle.message.specs.Message.{Meaning, logOf, bytesOf, Reading, refused as unread, means, readOf}
+use Rattle.message.specs.Message.{Meaning, logOf, bytesOf, meaningIn}
 use Rattle.message.proofs.TestLaws.{either, or-false}
+use Rattle.message.proofs.CauseLaws.{passes, judged, judged-alike}
 use Rattle.message.proofs.PartLaws.{put-front}
 use Rattle.message.proofs.WrittenFields.{length-message}
 use Rattle.agreement.specs.Limits.{mostSenders}
@@ -23,13 +24,14 @@ use Rattle.agreement.specs.Kept.{keptProposal}
 use Rattle.agreement.proofs.KeptLaws.{kept-length}
 use Rattle.agreement.proofs.RecordLaws.{by-short}
 use Rattle.agreement.proofs.GradeSources.{vote-from}
-use Rattle.bench.specs.Layout.{logsPlace, proposalsPlace, mostBytes, shortLists}
-use Rattle.bench.specs.Calendar.{lastBeat, viewOf, placeIn, Act, proposing, voting, deciding, snapping, actAt}
-use Rattle.bench.specs.Calls.{Reply, refused, done, took, acted, State, openTo}
+use Rattle.bench.specs.Layout.{logsPlace, proposalsPlace, mostBytes}
+use Rattle.bench.specs.Calendar.{viewOf, placeIn, Act, proposing, voting, deciding, snapping, actAt}
+use Rattle.bench.specs.Calls.{Reply, refused, done, took, acted, State, Step}
 use Rattle.bench.specs.Acts.{mayPropose, propose, vote, isView, inViews, makes, outAfter}
-use Rattle.bench.specs.Record.{agreementOf, proposalsOf, beatOf, notAboveLast, idle, tooLong, badProposer, anyPlace, beyondProposals, beyond, Bench}
-use Rattle.bench.specs.ByRecord.{beginOf, receives, receiveOf, usedOf, seenOf, over, actedOf, actOf}
-use Rattle.bench.proofs.TestedLaws.{within-limits}
+use Rattle.bench.specs.Record.{agreementOf, proposalsOf, beatOf, tooLong, badProposer, anyPlace, beyondProposals, Bench}
+use Rattle.bench.specs.ByRecord.{refuse, begun, beginRows, beginOf, fileMessage, taken, receiveRows, receiveOf, usedOf, seenOf, over, actedOf, actRows, actOf}
+use Rattle.bench.specs.Tested.{Tested}
+use Rattle.bench.proofs.TestedLaws.{within-limits, long-out}
 use Rattle.bench.proofs.Fine.{no-place}
 use Rattle.bench.proofs.FineAgreements.{getD-all}
 
@@ -122,46 +124,51 @@ fits out (some m) h r = (h, let l = length-message m in omega arith)
 pub begin-out : (s : State) (beat : ℕ) → beginOf s beat .answer .out ≡ []
 unfolding beginOf
 begin-out s beat =
-    either (beyond (s .bench)) (λ e. rw e) (λ e.
-    either (shortLists (s .lent)) (λ f. rw (e, f)) (λ f.
-    either (ltb lastBeat beat) (λ g. rw (e, f, g)) (λ g.
-    either (notAboveLast (s .bench) beat) (λ h. rw (e, f, g, h)) (λ h. rw (e, f, g, h)))))
-
-receives-out : (s : State) (bytes : List ℕ) (r : Reading) → receives s bytes r .answer .out ≡ []
-receives-out s bytes (unread k) = refl
-receives-out s bytes (means m) = either (not (openTo m (beatOf (s .bench)))) (λ e. rw e) (λ e. rw e)
+    judged (refuse s []) (begun s beat) (λ (r : Step). r .answer .out ≡ []) (beginRows s beat)
+    (λ k e. refl)
+    (λ e. refl)
 
 pub receive-out : (s : State) (bytes : List ℕ) → receiveOf s bytes .answer .out ≡ []
 unfolding receiveOf
 receive-out s bytes =
-    either (beyond (s .bench)) (λ e. rw e) (λ e.
-    either (shortLists (s .lent)) (λ f. rw (e, f)) (λ f.
-    either (idle (s .bench)) (λ g. rw (e, f, g)) (λ g. rw (e, f, g) (receives-out s bytes (readOf (s .bench .n) bytes)))))
+    judged (refuse s []) (taken (fileMessage s bytes (meaningIn bytes))) (λ (r : Step). r .answer .out ≡ [])
+    (receiveRows s bytes)
+    (λ k e. refl)
+    (λ e. refl)
 
 -- ---- the Act
 
 module _ (s : State) (block : Block) (priority : ℕ) (out : List ℕ) where
+  abbrev v : ℕ
+  v = viewOf (beatOf (s .bench))
+
+  abbrev a : Act
+  a = actAt (placeIn (beatOf (s .bench)))
+
+  -- what holds of each refused Act, and of what is done
+  by-causes : (P : Step → Type 0) → ((k : ℕ) → P (refuse s out k)) → (Tested s out → P (actedOf (over s) block priority out v a)) → P (actOf s block priority out)
+  unfolding actOf
+  by-causes P f g =
+      judged (refuse s out) (actedOf (over s) block priority out v a) P (actRows s out)
+      (λ k e. f k)
+      (λ e.
+      let (limits, (lists, (room, rest))) = passes (actRows s out) e in
+      g (record { usable = record { limits = limits; lists = lists }; room = room }))
+
   -- one equation, refused Acts included
   pub act-out : actOf s block priority out .answer .out ≡ outAfter (madeIn (actOf s block priority out .answer .reply)) out
-  unfolding actOf actedOf
-  act-out =
-      either (beyond (s .bench)) (λ e. rw e) (λ e.
-      either (shortLists (s .lent)) (λ f. rw (e, f)) (λ f.
-      either (ltb (length out) mostBytes) (λ g. rw (e, f, g)) (λ g.
-      either (idle (s .bench)) (λ h. rw (e, f, g, h)) (λ h. rw (e, f, g, h)))))
+  unfolding actedOf
+  act-out = by-causes (λ (r : Step). r .answer .out ≡ outAfter (madeIn (r .answer .reply)) out) (λ k. refl) (λ t. refl)
 
   made-fits : Fits out (madeIn (actOf s block priority out .answer .reply))
-  unfolding actOf actedOf
+  unfolding actedOf
   made-fits =
-      either (beyond (s .bench)) (λ e. rw e tt) (λ e.
-      either (shortLists (s .lent)) (λ f. rw (e, f) tt) (λ f.
-      either (ltb (length out) mostBytes) (λ g. rw (e, f, g) tt) (λ g.
-      either (idle (s .bench)) (λ h. rw (e, f, g, h) tt) (λ h.
-      let v = viewOf (beatOf (s .bench)) in
-      let a = actAt (placeIn (beatOf (s .bench))) in
-      rw (e, f, g, h) (fits out (makes (s .bench .own) v block priority (seenOf (over s) v a) a)
-      (makes-short (over s) (within-limits (s .bench) e .1) (s .bench .own) v block priority a)
-      (ltb-false (length out) mostBytes g))))))
+      by-causes (λ (r : Step). Fits out (madeIn (r .answer .reply)))
+      (λ k. tt)
+      (λ t.
+      fits out (makes (s .bench .own) v block priority (seenOf (over s) v a) a)
+      (makes-short (over s) (within-limits (s .bench) (t .usable .limits) .1) (s .bench .own) v block priority a)
+      (long-out t))
 
   -- nothing made, refused or not: the buffer handed in
   pub out-kept : madeIn (actOf s block priority out .answer .reply) ≡ none → actOf s block priority out .answer .out ≡ out
@@ -180,3 +187,23 @@ module _ (s : State) (block : Block) (priority : ℕ) (out : List ℕ) where
     -- a message: at the front, and the rest as handed in
     pub out-made : actOf s block priority out .answer .out ≡ bytesOf m ++ drop (length (bytesOf m)) out
     out-made = act-out ∙ ap (λ (r : Reply). outAfter (madeIn r) out) e ∙ put-front out (bytesOf m) (its .1)
+
+-- What the buffer holds shows nowhere else: neither in what is made nor in what is held.
+module _ (s : State) (block : Block) (priority : ℕ) (out o : List ℕ) (e : ltb (length out) mostBytes ≡ ltb (length o) mostBytes) where
+  same-but : {B : Type 0} (h : Step → B) → ((k : ℕ) → h (refuse s out k) ≡ h (refuse s o k))
+      → ((v : ℕ) (a : Act) → h (actedOf (over s) block priority out v a) ≡ h (actedOf (over s) block priority o v a))
+      → h (actOf s block priority out) ≡ h (actOf s block priority o)
+  unfolding actOf
+  same-but h d f =
+      rw e (judged-alike h (actRows s o) (refuse s out) (refuse s o)
+      (actedOf (over s) block priority out (viewOf (beatOf (s .bench))) (actAt (placeIn (beatOf (s .bench)))))
+      (actedOf (over s) block priority o (viewOf (beatOf (s .bench))) (actAt (placeIn (beatOf (s .bench)))))
+      d (f (viewOf (beatOf (s .bench))) (actAt (placeIn (beatOf (s .bench))))))
+
+  pub same-reply : actOf s block priority out .answer .reply ≡ actOf s block priority o .answer .reply
+  unfolding actedOf
+  same-reply = same-but (λ (r : Step). r .answer .reply) (λ k. refl) (λ v a. refl)
+
+  pub same-held : actOf s block priority out .held ≡ actOf s block priority o .held
+  unfolding actedOf
+  same-held = same-but (λ (r : Step). r .held) (λ k. refl) (λ v a. refl)

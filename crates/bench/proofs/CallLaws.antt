@@ -3,15 +3,16 @@
 use Prim.Native.Nat.{ℕ, _≤_}
 use mathlib.Core.Path.{_≡_, refl, sym, ap, subst, _∙_}
 use mathlib.Core.Logic.{_⊎_, inl, inr}
-use mathlib.Core.List.{List, _∷_, List·Memᴰ as Mem, List·Memᴰ·head, List·Memᴰ·tail, List·Memᴰ·cases-cons}
-use mathlib.Core.Option.{Option, some, none, Option·some-ne-none}
-use mathlib.Core.Bool.{Bool, true, false, not, false≢true}
-use lib.Dec.{ltb}
+use mathlib.Core.List.{List, _∷_, List·Memᴰ as Mem, List·Memᴰ·head, List·Memᴰ·tail, List·Memᴰ·cases-cons, []}
+use mathlib.Core.Option.{Option, some, none}
+use mathlib.Core.Bool.{true, false, not}
 use lib.ListN.{length}
-use borrow.Author.Tests.{ltb-false}
-use Rattle.message.specs.Choice.{pick}
+use borrow.Author.Tests.{ltb-false, not-false}
 use Rattle.message.specs.Logs.{Block, sameLog}
-use Rattle.message.specs.Message.{Content, Meaning, logMessage, proposalMessage, Reading, refused as unread, means, readOf}
+use Rattle.message.specs.Message.{Content, Meaning, logMessage, proposalMessage, means, readOf, meaningIn, readCauses}
+use Rattle.message.specs.Causes.{by}
+use Rattle.message.proofs.CauseLaws.{Passes, passes, no-failure, passes-both, passes-each}
+use Rattle.message.proofs.Acceptance.{accepts, accepted as read-accepted}
 use Rattle.agreement.specs.Filing.{Word}
 use Rattle.agreement.specs.Kept.{wordOn}
 use Rattle.agreement.specs.Heard.{heardLogs}
@@ -19,7 +20,7 @@ use Rattle.bench.specs.Terms.{Seat}
 use Rattle.bench.specs.Layout.{mostBytes}
 use Rattle.bench.specs.Calendar.{lastBeat}
 use Rattle.bench.specs.Calls.{Call, begin, receive, act, done, took, Answer, openTo}
-use Rattle.bench.specs.History.{ActRecord, History, beatNow, notAbove, readingRefusal, refusal, wordFor, file, fileMade, closed, madeBy, decidedBy, accepted, wordRead, acceptedAnswer, step, answer}
+use Rattle.bench.specs.History.{ActRecord, History, beatNow, notAbove, refusal, wordFor, file, fileMade, closed, madeBy, decidedBy, accepted, wordRead, acceptedAnswer, step, answer, causes}
 
 -- ---- a call is refused and changes nothing, or is accepted
 
@@ -41,27 +42,22 @@ step-cases S p c = go (refusal S p c) refl
 
 -- ---- what it takes not to be refused
 
--- one cause in a row of them
-pub pick-none : (t : Bool) (k : ℕ) (o : Option ℕ) → pick t (some k) o ≡ none → (t ≡ false) × (o ≡ none)
-pick-none true k o e = absurd (Option·some-ne-none k e)
-pick-none false k o e = (refl, e)
+-- none of its causes is a failure, and conversely
+pub unrefused : (S : Seat) (p : History) (c : Call) → refusal S p c ≡ none → Passes (causes S p c)
+unfolding refusal
+unrefused S p c e = passes (causes S p c) e
 
-not-false : (t : Bool) → not t ≡ false → t ≡ true
-not-false true e = refl
-not-false false e = absurd (false≢true (sym e))
+pub accepts-call : (S : Seat) (p : History) (c : Call) → Passes (causes S p c) → refusal S p c ≡ none
+unfolding refusal
+accepts-call S p c x = no-failure (causes S p c) x
 
 pub begin-ok : (S : Seat) (p : History) (b : ℕ) → refusal S p (begin b) ≡ none → (b ≤ lastBeat) × (notAbove b (p .last) ≡ false)
-unfolding refusal
-begin-ok S p b e =
-    let x = pick-none (ltb lastBeat b) 10 (pick (notAbove b (p .last)) (some 20) none) e in
-    (ltb-false lastBeat b (x .0), pick-none (notAbove b (p .last)) 20 none (x .1) .0)
+begin-ok S p b e = let (late, (above, end)) = unrefused S p (begin b) e in (ltb-false lastBeat b late, above)
 
 pub act-ok : (S : Seat) (p : History) (block : Block) (priority : ℕ) (out : List ℕ)
     → refusal S p (act block priority out) ≡ none → (mostBytes ≤ length out) × (p .gathering ≡ true)
-unfolding refusal
 act-ok S p block priority out e =
-    let x = pick-none (ltb (length out) mostBytes) 11 (pick (not (p .gathering)) (some 22) none) e in
-    (ltb-false (length out) mostBytes (x .0), not-false (p .gathering) (pick-none (not (p .gathering)) 22 none (x .1) .0))
+    let (short, (idle, end)) = unrefused S p (act block priority out) e in (ltb-false (length out) mostBytes short, not-false (p .gathering) idle)
 
 -- a message that is taken
 pub record Receives (S : Seat) (p : History) (bytes : List ℕ) : Type 0 where
@@ -71,15 +67,15 @@ pub record Receives (S : Seat) (p : History) (bytes : List ℕ) : Type 0 where
   pub inWindow : openTo message (beatNow p) ≡ true
 
 pub receive-ok : (S : Seat) (p : History) (bytes : List ℕ) → refusal S p (receive bytes) ≡ none → Receives S p bytes
-unfolding refusal
 receive-ok S p bytes e =
-    let x = pick-none (not (p .gathering)) 22 (readingRefusal (beatNow p) (readOf (S .terms .n) bytes)) e in
-    go (readOf (S .terms .n) bytes) refl (x .1) (not-false (p .gathering) (x .0))
-  where
-    go : (r : Reading) → readOf (S .terms .n) bytes ≡ r → readingRefusal (beatNow p) r ≡ none → p .gathering ≡ true → Receives S p bytes
-    go (unread k) q h g = absurd (Option·some-ne-none k h)
-    go (means m) q h g =
-        record { message = m; read = q; gathering = g; inWindow = not-false (openTo m (beatNow p)) (pick-none (not (openTo m (beatNow p))) 21 none h .0) }
+    let (idle, rest) = unrefused S p (receive bytes) e in
+    let (reads, (shut, end)) = passes-each (readCauses (S .terms .n) bytes) (by 21 (not (openTo (meaningIn bytes) (beatNow p))) ∷ []) rest in
+    record {
+      message = meaningIn bytes;
+      read = accepts (S .terms .n) bytes reads;
+      gathering = not-false (p .gathering) idle;
+      inWindow = not-false (openTo (meaningIn bytes) (beatNow p)) shut;
+    }
 
 means-injective : (m k : Meaning) → means m ≡ means k → m ≡ k
 means-injective m k e = cc
@@ -92,8 +88,10 @@ receive-open S p bytes m ok e =
 
 pub receive-refusal : (S : Seat) (p : History) (bytes : List ℕ) (m : Meaning)
     → readOf (S .terms .n) bytes ≡ means m → p .gathering ≡ true → openTo m (beatNow p) ≡ true → refusal S p (receive bytes) ≡ none
-unfolding refusal
-receive-refusal S p bytes m q g w = rw (g, q, w)
+receive-refusal S p bytes m q g w =
+    let (reads, same) = read-accepted (S .terms .n) bytes m q in
+    accepts-call S p (receive bytes)
+    (ap not g, passes-both (readCauses (S .terms .n) bytes) (by 21 (not (openTo (meaningIn bytes) (beatNow p))) ∷ []) reads (rw (same, w), tt))
 
 -- ---- the word answered to a message taken
 

@@ -2,17 +2,19 @@
 use Prim.Native.Nat.{ℕ, zero, suc, _+_, _-_, _^_, _≤_, _<_}
 use native.Mathlib.Omega.{arith}
 use mathlib.Core.Bool.{Bool, true, false, not, _||_, false≢true}
-use mathlib.Core.List.{List, [], List·Memᴰ·not-nil}
+use mathlib.Core.List.{List, [], _∷_, _++_, List·Memᴰ·not-nil}
 use mathlib.Core.Option.{some, none, Option·none-ne-some}
 use mathlib.Core.Path.{_≡_, refl, sym, ap, subst, _∙_}
-use borrow.Author.Tests.{eqb-true, ne-eqb, ltb-false, leb-true, leb-false, lt-ltb, le-ltb}
+use borrow.Author.Tests.{eqb-true, ne-eqb, ltb-false, leb-true, leb-false, lt-ltb, le-ltb, not-false}
 use lib.Dec.{eqb, leb, ltb}
 use lib.ListN.{length}
+use Rattle.message.specs.Causes.{Cause, by, firstFailure, judgedBy}
 use Rattle.message.specs.Numbers.{AllBelow}
-use Rattle.message.specs.Message.{Content, Meaning, logOf, Reading, refused as unread, means, readOf}
+use Rattle.message.specs.Message.{Content, Meaning, logOf, meaningIn, readCauses, means, readOf}
 use Rattle.message.proofs.TestLaws.{either}
+use Rattle.message.proofs.CauseLaws.{passes, passes-each, judged}
 use Rattle.message.proofs.ListedLaws.{log-empty}
-use Rattle.message.proofs.Acceptance.{accepted as read-accepted, said-in}
+use Rattle.message.proofs.Acceptance.{accepts, accepted as read-accepted, said-in}
 use Rattle.message.proofs.Codec.{read-writable}
 use Rattle.message.proofs.Inside.{holds-accepted}
 use Rattle.agreement.specs.Sets.{isYes}
@@ -21,10 +23,13 @@ use Rattle.agreement.specs.Proposals.{emptyProposals, Proposals}
 use Rattle.bench.specs.Terms.{Terms, Seat, seatOf}
 use Rattle.bench.specs.Layout.{decidedPlace, leastLent, Lent, shortLists, outOfRange}
 use Rattle.bench.specs.Calendar.{lastBeat}
-use Rattle.bench.specs.Calls.{Call, begin, receive, refused, took, Step, openTo, State}
+use Rattle.bench.specs.Calls.{Call, begin, receive, bufferIn, took, Step, openTo, State}
+use Rattle.bench.specs.Causes.{beginCauses, receiveCauses}
 use Rattle.bench.specs.History.{History, fresh, orZero, beatNow, notAbove, refusal, wordFor, accepted, answer, acceptedAnswer, step, standIn}
-use Rattle.bench.specs.Record.{freshBench, ofView, agreementOf, proposalsOf, beatOf, notAboveLast, idle, beyond, Bench}
-use Rattle.bench.specs.ByRecord.{refuse, begun, beginOf, fileMessage, taken, receives, receiveOf}
+use Rattle.bench.specs.Record.{freshBench, ofView, agreementOf, proposalsOf, beatOf, notAboveLast, idle, Bench}
+use Rattle.bench.specs.ByRecord.{refuse, recordCauses, begun, beginOf, fileMessage, taken, receiveOf}
+use Rattle.bench.specs.Tested.{Usable}
+use Rattle.bench.proofs.Refusals.{usable-past}
 use Rattle.bench.proofs.TestedLaws.{lists-roomy}
 use Rattle.bench.proofs.Fine.{not-beyond}
 use Rattle.bench.proofs.FineBench.{fresh-fine, begun-fine}
@@ -41,27 +46,13 @@ pub record Agrees (S : Seat) (s : State) (p : History) (c : Call) (r : Step) : T
   pub tied : Tie S (r .held) (step S p c)
   pub left : (k : ℕ) → refusal S p c ≡ some k → r .held ≡ s
 
-module _ (S : Seat) (s : State) (p : History) (t : Tie S s p) (c : Call) where
-  -- both refuse
-  pub both-refuse : (out : List ℕ) (k : ℕ) → refusal S p c ≡ some k → answer S p c ≡ record { reply = refused k; out = out } → Agrees S s p c (refuse s out k)
-  unfolding step
-  both-refuse out k e a = record { answered = sym a; tied = rw e t; left = λ j f. refl }
-
-  -- both accept
-  pub both-accept : (r : Step) → refusal S p c ≡ none → r .answer ≡ acceptedAnswer S p c → Tie S (r .held) (accepted S p c) → Agrees S s p c r
-  unfolding step answer
-  both-accept r e a h = record { answered = rw e a; tied = rw e h; left = λ k f. absurd (Option·none-ne-some _ (sym e ∙ f)) }
-
 -- no record tied to a history is beyond its limits or has lists too short
 module _ {S : Seat} {s : State} {p : History} (t : Tie S s p) where
-  pub in-limits : beyond (s .bench) ≡ false
-  in-limits = not-beyond (s .bench) (t .fine)
-
-  pub long-lists : shortLists (s .lent) ≡ false
-  long-lists =
+  usable : Usable s
+  usable =
       let a = le-ltb (length (s .lent .names)) leastLent (t .roomy .names) in
       let b = le-ltb (length (s .lent .counts)) leastLent (t .roomy .counts) in
-      λ i. a i || b i
+      record { limits = not-beyond (s .bench) (t .fine); lists = λ i. a i || b i }
 
   -- the beat, and whether a gathering is under way
   pub beat-same : beatOf (s .bench) ≡ beatNow p
@@ -70,6 +61,13 @@ module _ {S : Seat} {s : State} {p : History} (t : Tie S s p) where
       go : (next : ℕ) → lastOf next ≡ p .last → next - 1 ≡ beatNow p
       go zero e = ap orZero e
       go (suc b) e = let a : suc b - 1 ≡ b = omega arith in a ∙ ap orZero e
+
+  pub idle-same : idle (s .bench) ≡ not (p .gathering)
+  idle-same = twice (idle (s .bench)) ∙ ap not (t .gathering-is)
+    where
+      twice : (b : Bool) → b ≡ not (not b)
+      twice true = refl
+      twice false = refl
 
   pub started : p .gathering ≡ true → 0 < s .bench .next
   started g = go (s .bench .next) (t .gathering-is ∙ g)
@@ -81,6 +79,20 @@ module _ {S : Seat} {s : State} {p : History} (t : Tie S s p) where
           no true f = false≢true f
           no false f = false≢true f
       go (suc b) e = omega arith
+
+-- A call whose own causes come to what the history's do: both refuse alike, or both accept.
+pub agrees-by : (S : Seat) (s : State) (p : History) (t : Tie S s p) (c : Call) (cs : List Cause) (x : Step) → refusal S p c ≡ firstFailure cs
+    → (firstFailure cs ≡ none → (x .answer ≡ acceptedAnswer S p c) × Tie S (x .held) (accepted S p c))
+    → Agrees S s p c (judgedBy (recordCauses s ++ cs) (refuse s (bufferIn c)) x)
+unfolding step answer
+agrees-by S s p t c cs x same accept =
+    rw (usable-past (refuse s (bufferIn c)) x s cs (usable t))
+    (judged (refuse s (bufferIn c)) x (Agrees S s p c) cs
+    (λ k e. let r = same ∙ e in record { answered = rw r; tied = rw r t; left = λ j f. refl })
+    (λ e.
+    let r = same ∙ e in
+    let (a, h) = accept e in
+    record { answered = rw r a; tied = rw r h; left = λ k f. absurd (Option·none-ne-some k (sym r ∙ f)) }))
 
 -- ---- Begin
 
@@ -125,19 +137,12 @@ module _ (S : Seat) (s : State) (p : History) (t : Tie S s p) (beat : ℕ) where
   }
 
   pub begin-agrees : Agrees S s p (begin beat) (beginOf s beat)
-  unfolding beginOf refusal answer acceptedAnswer
+  unfolding beginOf refusal acceptedAnswer
   begin-agrees =
       let above = above-same (s .bench) beat ∙ ap (notAbove beat) (t .last-is) in
-      either (ltb lastBeat beat)
-      (λ e. rw (in-limits t, long-lists t, e) (both-refuse S s p t (begin beat) [] 10 (rw e) (rw e)))
-      (λ e. either (notAboveLast (s .bench) beat)
-      (λ f.
-      let g : notAbove beat (p .last) ≡ true = sym above ∙ f in
-      rw (in-limits t, long-lists t, e, f) (both-refuse S s p t (begin beat) [] 20 (rw (e, g)) (rw (e, g))))
-      (λ f.
-      let g : notAbove beat (p .last) ≡ false = sym above ∙ f in
-      rw (in-limits t, long-lists t, e, f)
-      (both-accept S s p t (begin beat) (begun s beat) (rw (e, g)) refl (begun-tie (ltb-false lastBeat beat e) (ltb-false beat (s .bench .next) f)))))
+      agrees-by S s p t (begin beat) (beginCauses beat (notAboveLast (s .bench) beat)) (begun s beat) (rw above) (λ e.
+      let (late, (low, end)) = passes (beginCauses beat (notAboveLast (s .bench) beat)) e in
+      (refl, begun-tie (ltb-false lastBeat beat late) (ltb-false beat (s .bench .next) low)))
 
 -- ---- Receive
 
@@ -149,33 +154,24 @@ carries-read n bytes m e = record {
 }
 
 module _ (S : Seat) (s : State) (p : History) (t : Tie S s p) (bytes : List ℕ) (typed : AllBelow 256 bytes) where
-  -- once a gathering is under way
-  reading-agrees : p .gathering ≡ true → (r : Reading) → readOf (S .terms .n) bytes ≡ r → Agrees S s p (receive bytes) (receives s bytes r)
-  unfolding refusal answer acceptedAnswer accepted
-  reading-agrees g (unread k) e = both-refuse S s p t (receive bytes) [] k (rw (g, e)) (rw (g, e))
-  reading-agrees g (means m) e =
-      either (openTo m (beatOf (s .bench)))
-      (λ w.
-      let w′ : openTo m (beatNow p) ≡ true = ap (openTo m) (sym (beat-same t)) ∙ w in
+  taken-tie : p .gathering ≡ true → (m : Meaning) → readOf (S .terms .n) bytes ≡ means m → openTo m (beatOf (s .bench)) ≡ true
+      → (taken (fileMessage s bytes m) .answer ≡ acceptedAnswer S p (receive bytes)) × Tie S (taken (fileMessage s bytes m) .held) (accepted S p (receive bytes))
+  unfolding acceptedAnswer accepted
+  taken-tie g m e w =
       let x = file-tie S s p t bytes (started t g) m (read-writable (S .terms .n) bytes m typed e) (carries-read (S .terms .n) bytes m e) w in
       let word : took (fileMessage s bytes m .word) ≡ took (wordFor p m) = ap took (x .0) in
-      rw w
-      (both-accept S s p t (receive bytes) (taken (fileMessage s bytes m)) (rw (g, e, w′)) (rw e (λ i. record { reply = word i; out = [] })) (rw e (x .1))))
-      (λ w.
-      let w′ : openTo m (beatNow p) ≡ false = ap (openTo m) (sym (beat-same t)) ∙ w in
-      rw w (both-refuse S s p t (receive bytes) [] 21 (rw (g, e, w′)) (rw (g, e, w′))))
+      (rw e (λ i. record { reply = word i; out = [] }), rw e (x .1))
 
   pub receive-agrees : Agrees S s p (receive bytes) (receiveOf s bytes)
-  unfolding receiveOf refusal answer
+  unfolding receiveOf refusal
   receive-agrees =
-      either (idle (s .bench))
-      (λ i.
-      let g : p .gathering ≡ false = sym (t .gathering-is) ∙ ap not i in
-      rw (in-limits t, long-lists t, i) (both-refuse S s p t (receive bytes) [] 22 (rw g) (rw g)))
-      (λ i.
-      let g : p .gathering ≡ true = sym (t .gathering-is) ∙ ap not i in
-      rw (in-limits t, long-lists t, i)
-      (subst (λ (k : ℕ). Agrees S s p (receive bytes) (receives s bytes (readOf k bytes))) (sym (t .n-is)) (reading-agrees g (readOf (S .terms .n) bytes) refl)))
+      let same = idle-same t in
+      agrees-by S s p t (receive bytes) (receiveCauses (idle (s .bench)) (s .bench .n) (beatOf (s .bench)) bytes) (taken (fileMessage s bytes (meaningIn bytes)))
+      (rw (same, t .n-is, beat-same t)) (λ e.
+      let (i, rest) = passes (receiveCauses (idle (s .bench)) (s .bench .n) (beatOf (s .bench)) bytes) e in
+      let (reads, (shut, end)) = passes-each (readCauses (s .bench .n) bytes) (by 21 (not (openTo (meaningIn bytes) (beatOf (s .bench)))) ∷ []) rest in
+      taken-tie (not-false (p .gathering) (sym same ∙ i)) (meaningIn bytes) (accepts (S .terms .n) bytes (rw (← t .n-is) reads))
+      (not-false (openTo (meaningIn bytes) (beatOf (s .bench))) shut))
 
 -- ---- Open
 

@@ -13,7 +13,6 @@ pub mod FineProposals
 pub mod Slots
 pub mod FineBench
 -- The refusals, what holds where none is given, and the outgoing buffer, of every record:
-pub mod ReadRefusals
 pub mod Refusals
 pub mod TestedLaws
 pub mod LimitLaws

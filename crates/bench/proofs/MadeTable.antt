@@ -4,6 +4,7 @@ use mathlib.Core.List.{List, [], _∷_, _++_, map}
 use mathlib.Core.Option.{Option, some, none}
 use mathlib.Core.Path.{_≡_, refl}
 use lib.ListN.{length, replicate}
+use Rattle.message.specs.Causes.{firstFailure, judgedBy}
 use Rattle.message.specs.Numbers.{part, put, bytesFor, bytesForEach}
 use Rattle.message.specs.Logs.{Block, Log, isPrefix, inStep, namesOf, countsOf}
 use Rattle.message.specs.Message.{Meaning, logMessage, proposalMessage, messageBytes, bytesOf}
@@ -101,7 +102,7 @@ rows =
 
 pub bytes-hold : map (λ (r : Row). r .step .answer .out) rows ≡ map (λ (r : Row). r .out) rows
 unfolding
-    beginOf keptAgreement keptProposals actOf actedOf changed snappedBy settled usedOf agreementOf proposalsOf withAgreement
+    judgedBy firstFailure beginOf keptAgreement keptProposals actOf actedOf changed snappedBy settled usedOf agreementOf proposalsOf withAgreement
     anyPlace beyondAgreement beyondProposals beyond propose vote makes voteAmong keptProposal bestOf gradeAmong overlong maySupport supports hasGrade under
     prefixes candidates longer longestOf longest weigh member adding removing logAt messageBytes bytesOf part put bytesFor bytesForEach isPrefix inStep namesOf countsOf
 bytes-hold = refl
@@ -134,7 +135,7 @@ limits =
 
 pub limits-hold : map (λ (r : Limit). r .step .answer .reply) limits ≡ map (λ (r : Limit). acted (r .made)) limits
 unfolding
-    actOf actedOf changed settled usedOf agreementOf proposalsOf anyPlace beyondAgreement beyondProposals beyond propose vote makes
+    judgedBy firstFailure actOf actedOf changed settled usedOf agreementOf proposalsOf anyPlace beyondAgreement beyondProposals beyond propose vote makes
     voteAmong keptProposal bestOf gradeAmong overlong maySupport supports hasGrade under prefixes candidates longer longestOf longest weigh member adding removing logAt part put
     isPrefix inStep namesOf countsOf
 limits-hold = refl
@@ -143,14 +144,14 @@ limits-hold = refl
 pub longest-out : offers (ready 1036 (many 63)) .answer .out
     ≡ bytesOf (proposalMessage (record { sender = 3; view = 259; log = many 63 ++ (block 517 259 ∷ []) }) 2057) ++ (7 ∷ [])
 unfolding
-    actOf actedOf changed settled usedOf agreementOf proposalsOf anyPlace beyondAgreement beyondProposals beyond propose makes gradeAmong overlong
+    judgedBy firstFailure actOf actedOf changed settled usedOf agreementOf proposalsOf anyPlace beyondAgreement beyondProposals beyond propose makes gradeAmong overlong
     maySupport supports hasGrade under prefixes candidates longer longestOf longest weigh member adding removing logAt messageBytes bytesOf part put bytesFor bytesForEach isPrefix
     inStep namesOf countsOf
 longest-out = refl
 
 pub longest-filed : offers (ready 1036 (many 63)) .held .bench .proposals ≡ withProposal (emptyProposals 259) 3 64 2057
 unfolding
-    actOf actedOf changed settled usedOf agreementOf proposalsOf anyPlace beyondAgreement beyondProposals beyond propose makes gradeAmong overlong
+    judgedBy firstFailure actOf actedOf changed settled usedOf agreementOf proposalsOf anyPlace beyondAgreement beyondProposals beyond propose makes gradeAmong overlong
     maySupport supports hasGrade under prefixes candidates longer longestOf longest weigh member adding removing logAt fileMessage fileProposalOf messageBytes bytesOf part put
     bytesFor bytesForEach isPrefix inStep namesOf countsOf
 longest-filed = refl

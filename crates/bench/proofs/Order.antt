@@ -6,9 +6,10 @@ use mathlib.Core.Option.{none}
 use mathlib.Core.Path.{_≡_, refl}
 use lib.ListN.{replicate}
 use Rattle.message.specs.Choice.{anyOf}
+use Rattle.message.specs.Causes.{firstFailure, judgedBy}
 use Rattle.message.specs.Numbers.{numberAt, numbersAt}
 use Rattle.message.specs.Logs.{Block, inStep}
-use Rattle.message.specs.Message.{malformed, readOf, meaningIn}
+use Rattle.message.specs.Message.{malformed, meaningIn}
 use Rattle.agreement.specs.Sets.{weigh, member, adding, removing}
 use Rattle.agreement.specs.Record.{emptyAgreement}
 use Rattle.agreement.specs.Proposals.{emptyProposals}
@@ -191,6 +192,6 @@ rows =
 
 pub rows-hold : map worked rows ≡ map stated rows
 unfolding
-    openOf beginOf receiveOf actedOf actOf makes changed settled snappedBy agreementOf withAgreement readOf malformed meaningIn anyOf numberAt numbersAt inStep
+    openOf beginOf receiveOf actedOf actOf makes changed settled snappedBy agreementOf withAgreement judgedBy firstFailure malformed meaningIn anyOf numberAt numbersAt inStep
     beyond beyondAgreement beyondProposals anyPlace weigh member adding removing
 rows-hold = refl

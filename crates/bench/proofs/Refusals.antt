@@ -1,292 +1,159 @@
--- The refusals, for every record, list, message and buffer: each number exactly under its condition where the earlier ones fail, in the order of
--- document 01; and a refused call leaves all as it was. Assumes nothing.
+-- The refusals, for every record, list, message and buffer: a call is refused by the first failure of its causes, under no other condition, and then
+-- leaves all as it was. What "first failure" comes to, row by row, is said over any list in message's CauseLaws. Assumes nothing.
 use Prim.Native.Nat.{ℕ}
 use native.Mathlib.Omega.{arith}
-use mathlib.Core.Bool.{true, false}
-use mathlib.Core.List.{List, []}
-use mathlib.Core.Option.{Option}
-use mathlib.Core.Path.{_≡_, refl, ap, subst, _∙_}
-use lib.Dec.{ltb}
-use lib.ListN.{length}
+use mathlib.Core.Bool.{Bool, true, false, not}
+use mathlib.Core.List.{List, [], _∷_, _++_}
+use mathlib.Core.Option.{some, none}
+use mathlib.Core.Path.{_≡_, refl, ap, _∙_}
+use Rattle.message.specs.Choice.{pick}
+use Rattle.message.specs.Causes.{Cause, by, firstFailure, judgedBy}
 use Rattle.message.specs.Logs.{Block}
-use Rattle.message.specs.Message.{Meaning, Reading, refused as unread, means, readOf}
-use Rattle.message.proofs.TestLaws.{either}
-use Rattle.agreement.specs.Filing.{Word}
-use Rattle.bench.specs.Layout.{mostBytes, Lent, shortLists, outOfRange}
-use Rattle.bench.specs.Calendar.{lastBeat, viewOf, placeIn, actAt}
-use Rattle.bench.specs.Calls.{refused, done, took, acted, Step, openTo, State}
+use Rattle.message.specs.Message.{Meaning, meaningIn, readCauses, refused as unread, means, readOf}
+use Rattle.message.proofs.CauseLaws.{no-failure, failure-append, listed, row-given, row-only, judged, judged-refused, judged-done, judged-past}
+use Rattle.message.proofs.Acceptance.{read-cause, accepted as read-accepted}
+use Rattle.bench.specs.Terms.{Terms, seatOf}
+use Rattle.bench.specs.Layout.{Lent, shortLists}
+use Rattle.bench.specs.Calls.{Reply, refused, done, Opening, Step, State, openTo}
+use Rattle.bench.specs.Causes.{openCauses, messageCauses}
+use Rattle.bench.specs.History.{openRefusal}
 use Rattle.bench.specs.Record.{freshBench, beatOf, idle, beyond}
-use Rattle.bench.specs.ByRecord.{refuse, notOpened, openOf, begun, beginOf, fileMessage, taken, receives, receiveOf, actedOf, over, actOf}
+use Rattle.bench.specs.ByRecord.{refuse, recordCauses, notOpened, openOf, begun, beginRows, beginOf, fileMessage, taken, receiveRows, receiveOf, actedOf, actedNow, actRows, actOf}
 use Rattle.bench.specs.Tested.{Usable}
-use Rattle.bench.proofs.ReadRefusals.{ReadCause, read-refuses, read-cause, read-number}
-
--- ---- answers apart
-
-same-number : (j k : ℕ) → refused j ≡ refused k → j ≡ k
-same-number j k e = cc
-
-done-apart : {A : Type 0} (k : ℕ) → done ≡ refused k → A
-done-apart k e = let z : _≡_ {A = ℕ} 0 1 = cc in absurd (omega arith)
-
-took-apart : {A : Type 0} (w : Word) (k : ℕ) → took w ≡ refused k → A
-took-apart w k e = let z : _≡_ {A = ℕ} 0 1 = cc in absurd (omega arith)
-
-acted-apart : {A : Type 0} (m : Option Meaning) (k : ℕ) → acted m ≡ refused k → A
-acted-apart m k e = let z : _≡_ {A = ℕ} 0 1 = cc in absurd (omega arith)
 
 -- ---- Open
 
 module _ (n own : ℕ) (l : Lent) where
-  pub open-7 : outOfRange n own ≡ true → openOf n own l ≡ notOpened 7
+  abbrev opened : Opening
+  opened = record { reply = done; bench = freshBench n own }
+
+  pub open-refused : (k : ℕ) → firstFailure (openCauses n own l) ≡ some k → openOf n own l ≡ notOpened k
   unfolding openOf
-  open-7 e = rw e
+  open-refused k e = judged-refused notOpened opened (openCauses n own l) k e
 
-  pub open-8 : outOfRange n own ≡ false → shortLists l ≡ true → openOf n own l ≡ notOpened 8
+  pub open-done : firstFailure (openCauses n own l) ≡ none → openOf n own l ≡ record { reply = done; bench = freshBench n own }
   unfolding openOf
-  open-8 e f = rw (e, f)
+  open-done e = judged-done notOpened opened (openCauses n own l) e
 
-  pub open-done : outOfRange n own ≡ false → shortLists l ≡ false → openOf n own l ≡ record { reply = done; bench = freshBench n own }
+  -- refused by k, or not, under no other condition
+  pub open-cause : (k : ℕ) → openOf n own l .reply ≡ refused k → firstFailure (openCauses n own l) ≡ some k
   unfolding openOf
-  open-done e f = rw (e, f)
+  open-cause k =
+      judged notOpened opened (λ (o : Opening). o .reply ≡ refused k → firstFailure (openCauses n own l) ≡ some k) (openCauses n own l)
+      (λ j e r. let q : j ≡ k = cc in e ∙ ap some q)
+      (λ e r. let z : _≡_ {A = ℕ} 0 1 = cc in absurd (omega arith))
 
-  -- Open refuses by k
-  pub data OpenCause : ℕ → Type 0 where
-    open-range : outOfRange n own ≡ true → OpenCause 7
-    open-lists : outOfRange n own ≡ false → shortLists l ≡ true → OpenCause 8
-
-  pub open-cause : (k : ℕ) → openOf n own l .reply ≡ refused k → OpenCause k
+  pub open-none : openOf n own l .reply ≡ done → firstFailure (openCauses n own l) ≡ none
   unfolding openOf
-  open-cause k r =
-      either (outOfRange n own)
-      (λ e. subst OpenCause (same-number 7 k (rw e at r)) (open-range e))
-      (λ e. either (shortLists l)
-      (λ f. subst OpenCause (same-number 8 k (rw (e, f) at r)) (open-lists e f))
-      (λ f. done-apart k (rw (e, f) at r)))
+  open-none =
+      judged notOpened opened (λ (o : Opening). o .reply ≡ done → firstFailure (openCauses n own l) ≡ none) (openCauses n own l)
+      (λ j e r. let z : _≡_ {A = ℕ} 0 1 = cc in absurd (omega arith))
+      (λ e r. e)
 
-  pub open-refuses : {k : ℕ} → OpenCause k → openOf n own l ≡ notOpened k
-  open-refuses (open-range e) = open-7 e
-  open-refuses (open-lists e f) = open-8 e f
+-- what Open is refused by is worked out alike from its record and from the list of calls
+pub open-same : (T : Terms) (own : ℕ) (l : Lent) → openRefusal (seatOf T own) l ≡ firstFailure (openCauses (T .n) own l)
+unfolding openRefusal
+open-same T own l = refl
 
 -- the record beside a refused Open is of no bench
 pub no-bench : (k : ℕ) → beyond (notOpened k .bench) ≡ true
 unfolding beyond
 no-bench k = refl
 
--- ---- Begin, Receive, Act: 9 and 8 come first in each
+-- ---- a call on a record, judged by these causes: r is what it comes to, and t what is done where none fails
 
--- what is left by a call that is refused
-leaves : {s : State} {out : List ℕ} {k : ℕ} {t : Step} → t ≡ refuse s out k → (t .held ≡ s) × (t .answer .out ≡ out)
-leaves e = (ap (λ (x : Step). x .held) e, ap (λ (x : Step). x .answer .out) e)
+pub record Judged (cs : List Cause) (s : State) (out : List ℕ) (t r : Step) : Type 0 where
+  pub refuses : (k : ℕ) → firstFailure cs ≡ some k → r ≡ refuse s out k
+  pub does : firstFailure cs ≡ none → r ≡ t
+  pub cause : (k : ℕ) → r .answer .reply ≡ refused k → firstFailure cs ≡ some k
 
-module _ (s : State) (e : beyond (s .bench) ≡ true) where
-  pub begin-9 : (beat : ℕ) → beginOf s beat ≡ refuse s [] 9
-  unfolding beginOf
-  begin-9 beat = rw e
+-- an answer that is no refusal
+abbrev Answers : Reply → Type 0
+Answers a = (k : ℕ) → a ≡ refused k → ⊥
 
-  pub receive-9 : (bytes : List ℕ) → receiveOf s bytes ≡ refuse s [] 9
-  unfolding receiveOf
-  receive-9 bytes = rw e
+by-causes : (cs : List Cause) (s : State) (out : List ℕ) (t : Step) → Answers (t .answer .reply) → Judged cs s out t (judgedBy cs (refuse s out) t)
+by-causes cs s out t a = record {
+  refuses = judged-refused (refuse s out) t cs;
+  does = judged-done (refuse s out) t cs;
+  cause = λ k.
+      judged (refuse s out) t (λ (r : Step). r .answer .reply ≡ refused k → firstFailure cs ≡ some k) cs
+      (λ j e q. let i : j ≡ k = cc in e ∙ ap some i)
+      (λ e q. absurd (a k q));
+}
 
-  pub act-9 : (block : Block) (priority : ℕ) (out : List ℕ) → actOf s block priority out ≡ refuse s out 9
-  unfolding actOf
-  act-9 block priority out = rw e
+-- a refused call leaves record, lists and buffer
+pub refusal-leaves : {cs : List Cause} {s : State} {out : List ℕ} {t r : Step} → Judged cs s out t r → (k : ℕ) → r .answer .reply ≡ refused k
+    → (r .held ≡ s) × (r .answer .out ≡ out)
+refusal-leaves j k q = let e = j .refuses k (j .cause k q) in (ap (λ (x : Step). x .held) e, ap (λ (x : Step). x .answer .out) e)
 
-module _ (s : State) (e : beyond (s .bench) ≡ false) (f : shortLists (s .lent) ≡ true) where
-  pub begin-8 : (beat : ℕ) → beginOf s beat ≡ refuse s [] 8
-  unfolding beginOf
-  begin-8 beat = rw (e, f)
+-- ---- the three calls
 
-  pub receive-8 : (bytes : List ℕ) → receiveOf s bytes ≡ refuse s [] 8
-  unfolding receiveOf
-  receive-8 bytes = rw (e, f)
+pub begin-judged : (s : State) (beat : ℕ) → Judged (beginRows s beat) s [] (begun s beat) (beginOf s beat)
+unfolding beginOf
+begin-judged s beat =
+    by-causes (beginRows s beat) s [] (begun s beat)
+    (λ k e. let z : _≡_ {A = ℕ} 0 1 = cc in omega arith)
 
-  pub act-8 : (block : Block) (priority : ℕ) (out : List ℕ) → actOf s block priority out ≡ refuse s out 8
-  unfolding actOf
-  act-8 block priority out = rw (e, f)
+pub receive-judged : (s : State) (bytes : List ℕ)
+    → Judged (receiveRows s bytes) s [] (taken (fileMessage s bytes (meaningIn bytes))) (receiveOf s bytes)
+unfolding receiveOf
+receive-judged s bytes =
+    by-causes (receiveRows s bytes) s [] (taken (fileMessage s bytes (meaningIn bytes)))
+    (λ k e. let z : _≡_ {A = ℕ} 0 1 = cc in omega arith)
 
--- ---- Begin
+pub act-judged : (s : State) (block : Block) (priority : ℕ) (out : List ℕ)
+    → Judged (actRows s out) s out (actedNow s block priority out) (actOf s block priority out)
+unfolding actOf actedOf
+act-judged s block priority out =
+    by-causes (actRows s out) s out (actedNow s block priority out)
+    (λ k e. let z : _≡_ {A = ℕ} 0 1 = cc in omega arith)
 
-module _ (s : State) (beat : ℕ) where
-  pub begin-10 : Usable s → ltb lastBeat beat ≡ true → beginOf s beat ≡ refuse s [] 10
-  unfolding beginOf
-  begin-10 u g = rw (u .limits, u .lists, g)
+-- ---- 9 and 8, which come first in each: given exactly if so, where no later row has the number
 
-  pub begin-20 : Usable s → ltb lastBeat beat ≡ false → ltb beat (s .bench .next) ≡ true → beginOf s beat ≡ refuse s [] 20
-  unfolding beginOf
-  begin-20 u g h = rw (u .limits, u .lists, g, h)
+module _ {cs : List Cause} {s : State} {out : List ℕ} {t r : Step} (j : Judged (recordCauses s ++ cs) s out t r) where
+  pub by-9 : beyond (s .bench) ≡ true → r ≡ refuse s out 9
+  by-9 e = j .refuses 9 (row-given (by 8 (shortLists (s .lent)) ∷ cs) 9 (beyond (s .bench)) [] tt e)
 
-  pub begin-done : Usable s → ltb lastBeat beat ≡ false → ltb beat (s .bench .next) ≡ false → beginOf s beat ≡ begun s beat
-  unfolding beginOf
-  begin-done u g h = rw (u .limits, u .lists, g, h)
+  pub by-8 : beyond (s .bench) ≡ false → shortLists (s .lent) ≡ true → r ≡ refuse s out 8
+  by-8 e f = j .refuses 8 (row-given cs 8 (shortLists (s .lent)) (by 9 (beyond (s .bench)) ∷ []) (e, tt) f)
 
-  -- Begin refuses by k
-  pub data BeginCause : ℕ → Type 0 where
-    begin-limits : beyond (s .bench) ≡ true → BeginCause 9
-    begin-lists : beyond (s .bench) ≡ false → shortLists (s .lent) ≡ true → BeginCause 8
-    begin-late : Usable s → ltb lastBeat beat ≡ true → BeginCause 10
-    begin-again : Usable s → ltb lastBeat beat ≡ false → ltb beat (s .bench .next) ≡ true → BeginCause 20
+  pub only-9 : listed 9 cs ≡ false → r .answer .reply ≡ refused 9 → beyond (s .bench) ≡ true
+  only-9 n q = row-only (by 8 (shortLists (s .lent)) ∷ cs) 9 (beyond (s .bench)) [] refl n (j .cause 9 q) .1
 
-  pub begin-cause : (k : ℕ) → beginOf s beat .answer .reply ≡ refused k → BeginCause k
-  unfolding beginOf
-  begin-cause k r =
-      either (beyond (s .bench)) (λ e. subst BeginCause (same-number 9 k (rw e at r)) (begin-limits e)) (λ e.
-      either (shortLists (s .lent)) (λ f. subst BeginCause (same-number 8 k (rw (e, f) at r)) (begin-lists e f)) (λ f.
-      let u : Usable s = record { limits = e; lists = f } in
-      either (ltb lastBeat beat) (λ g. subst BeginCause (same-number 10 k (rw (e, f, g) at r)) (begin-late u g)) (λ g.
-      either (ltb beat (s .bench .next)) (λ h. subst BeginCause (same-number 20 k (rw (e, f, g, h) at r)) (begin-again u g h)) (λ h.
-      done-apart k (rw (e, f, g, h) at r)))))
+  pub only-8 : listed 8 cs ≡ false → r .answer .reply ≡ refused 8 → (beyond (s .bench) ≡ false) × (shortLists (s .lent) ≡ true)
+  only-8 n q = let x = row-only cs 8 (shortLists (s .lent)) (by 9 (beyond (s .bench)) ∷ []) refl n (j .cause 8 q) in (x .0 .0, x .1)
 
-  pub begin-refuses : {k : ℕ} → BeginCause k → beginOf s beat ≡ refuse s [] k
-  begin-refuses (begin-limits e) = begin-9 s e beat
-  begin-refuses (begin-lists e f) = begin-8 s e f beat
-  begin-refuses (begin-late u g) = begin-10 u g
-  begin-refuses (begin-again u g h) = begin-20 u g h
+-- where neither is given, the causes of its own judge it
+pub usable-past : {A : Type 0} (refuse : ℕ → A) (x : A) (s : State) (cs : List Cause) → Usable s → judgedBy (recordCauses s ++ cs) refuse x ≡ judgedBy cs refuse x
+usable-past refuse x s cs u = judged-past refuse x (recordCauses s) cs (u .limits, (u .lists, tt))
 
-  -- a refused Begin leaves everything
-  pub begin-refused : (k : ℕ) → beginOf s beat .answer .reply ≡ refused k → beginOf s beat ≡ refuse s [] k
-  begin-refused k r = begin-refuses (begin-cause k r)
+-- Receive, in a gathering: the message's
+pub receive-on : (s : State) (bytes : List ℕ) → Usable s → idle (s .bench) ≡ false
+    → receiveOf s bytes ≡ judgedBy (messageCauses (s .bench .n) (beatOf (s .bench)) bytes) (refuse s []) (taken (fileMessage s bytes (meaningIn bytes)))
+unfolding receiveOf
+receive-on s bytes u g =
+    judged-past (refuse s []) (taken (fileMessage s bytes (meaningIn bytes))) (recordCauses s ++ (by 22 (idle (s .bench)) ∷ [])) (messageCauses (s .bench .n) (beatOf (s .bench)) bytes)
+    (u .limits, (u .lists, (g, tt)))
 
-  pub begin-leaves : (k : ℕ) → beginOf s beat .answer .reply ≡ refused k → (beginOf s beat .held ≡ s) × (beginOf s beat .answer .out ≡ [])
-  begin-leaves k r = leaves (begin-refused k r)
+-- and once it is read: refused as it was read, or by its window alone
+module _ (n beat : ℕ) (bytes : List ℕ) where
+  pub message-refused : (k : ℕ) → readOf n bytes ≡ unread k → firstFailure (messageCauses n beat bytes) ≡ some k
+  message-refused k e = failure-append (readCauses n bytes) (by 21 (not (openTo (meaningIn bytes) beat)) ∷ []) ∙ rw (read-cause n bytes k e)
+
+  pub message-read : {A : Type 0} (refuse : ℕ → A) (take : Meaning → A) (m : Meaning) → readOf n bytes ≡ means m
+      → judgedBy (messageCauses n beat bytes) refuse (take (meaningIn bytes)) ≡ pick (openTo m beat) (take m) (refuse 21)
+  message-read {A} refuse take m e =
+      let (reads, same) = read-accepted n bytes m e in
+      judged-past refuse (take (meaningIn bytes)) (readCauses n bytes) (by 21 (not (openTo (meaningIn bytes) beat)) ∷ []) reads ∙ rw same (shut (openTo m beat))
+    where
+      shut : (t : Bool) → judgedBy (by 21 (not t) ∷ []) refuse (take m) ≡ pick t (take m) (refuse 21)
+      shut true = judged-done refuse (take m) (by 21 false ∷ []) (no-failure (by 21 false ∷ []) (refl, tt))
+      shut false = judged-refused refuse (take m) (by 21 true ∷ []) 21 (row-given [] 21 true [] tt refl)
 
 -- Begin does not write the lists, whatever the record.
 pub begin-lent : (s : State) (beat : ℕ) → beginOf s beat .held .lent ≡ s .lent
 unfolding beginOf
 begin-lent s beat =
-    either (beyond (s .bench)) (λ e. rw e)
-    (λ e. either (shortLists (s .lent)) (λ f. rw (e, f))
-    (λ f. either (ltb lastBeat beat) (λ g. rw (e, f, g))
-    (λ g. either (ltb beat (s .bench .next)) (λ h. rw (e, f, g, h)) (λ h. rw (e, f, g, h)))))
-
--- ---- Receive
-
-module _ (s : State) (bytes : List ℕ) where
-  pub receive-22 : Usable s → idle (s .bench) ≡ true → receiveOf s bytes ≡ refuse s [] 22
-  unfolding receiveOf
-  receive-22 u g = rw (u .limits, u .lists, g)
-
-  -- in a gathering the message is judged
-  module _ (u : Usable s) (g : idle (s .bench) ≡ false) where
-    pub receive-on : receiveOf s bytes ≡ receives s bytes (readOf (s .bench .n) bytes)
-    unfolding receiveOf
-    receive-on = rw (u .limits, u .lists, g)
-
-    -- 1 to 6
-    pub receive-unreadable : {k : ℕ} → ReadCause (s .bench .n) bytes k → receiveOf s bytes ≡ refuse s [] k
-    receive-unreadable c = receive-on ∙ ap (receives s bytes) (read-refuses (s .bench .n) bytes c)
-
-    module _ (m : Meaning) (e : readOf (s .bench .n) bytes ≡ means m) where
-      pub receive-21 : openTo m (beatOf (s .bench)) ≡ false → receiveOf s bytes ≡ refuse s [] 21
-      receive-21 h = receive-on ∙ ap (receives s bytes) e ∙ rw h
-
-      pub receive-taken : openTo m (beatOf (s .bench)) ≡ true → receiveOf s bytes ≡ taken (fileMessage s bytes m)
-      receive-taken h = receive-on ∙ ap (receives s bytes) e ∙ rw h
-
-  -- Receive refuses by k
-  pub data ReceiveCause : ℕ → Type 0 where
-    receive-limits : beyond (s .bench) ≡ true → ReceiveCause 9
-    receive-lists : beyond (s .bench) ≡ false → shortLists (s .lent) ≡ true → ReceiveCause 8
-    receive-idle : Usable s → idle (s .bench) ≡ true → ReceiveCause 22
-    receive-unread : {k : ℕ} → Usable s → idle (s .bench) ≡ false → ReadCause (s .bench .n) bytes k → ReceiveCause k
-    receive-shut : Usable s → idle (s .bench) ≡ false → (m : Meaning) → readOf (s .bench .n) bytes ≡ means m
-        → openTo m (beatOf (s .bench)) ≡ false → ReceiveCause 21
-
-  pub receive-cause : (k : ℕ) → receiveOf s bytes .answer .reply ≡ refused k → ReceiveCause k
-  unfolding receiveOf
-  receive-cause k r =
-      either (beyond (s .bench)) (λ e. subst ReceiveCause (same-number 9 k (rw e at r)) (receive-limits e)) (λ e.
-      either (shortLists (s .lent)) (λ f. subst ReceiveCause (same-number 8 k (rw (e, f) at r)) (receive-lists e f)) (λ f.
-      let u : Usable s = record { limits = e; lists = f } in
-      either (idle (s .bench)) (λ g. subst ReceiveCause (same-number 22 k (rw (e, f, g) at r)) (receive-idle u g)) (λ g.
-      judged u g (readOf (s .bench .n) bytes) refl (rw (e, f, g) at r))))
-    where
-      judged : Usable s → idle (s .bench) ≡ false → (d : Reading) → readOf (s .bench .n) bytes ≡ d → receives s bytes d .answer .reply ≡ refused k → ReceiveCause k
-      judged u g (unread j) e q = subst ReceiveCause (same-number j k q) (receive-unread u g (read-cause (s .bench .n) bytes j e))
-      judged u g (means m) e q =
-          either (openTo m (beatOf (s .bench)))
-          (λ h. took-apart (fileMessage s bytes m .word) k (rw h at q))
-          (λ h. subst ReceiveCause (same-number 21 k (rw h at q)) (receive-shut u g m e h))
-
-  pub receive-refuses : {k : ℕ} → ReceiveCause k → receiveOf s bytes ≡ refuse s [] k
-  receive-refuses (receive-limits e) = receive-9 s e bytes
-  receive-refuses (receive-lists e f) = receive-8 s e f bytes
-  receive-refuses (receive-idle u g) = receive-22 u g
-  receive-refuses (receive-unread u g c) = receive-unreadable u g c
-  receive-refuses (receive-shut u g m e h) = receive-21 u g m e h
-
-  -- a refused Receive leaves everything
-  pub receive-refused : (k : ℕ) → receiveOf s bytes .answer .reply ≡ refused k → receiveOf s bytes ≡ refuse s [] k
-  receive-refused k r = receive-refuses (receive-cause k r)
-
-  pub receive-leaves : (k : ℕ) → receiveOf s bytes .answer .reply ≡ refused k → (receiveOf s bytes .held ≡ s) × (receiveOf s bytes .answer .out ≡ [])
-  receive-leaves k r = leaves (receive-refused k r)
-
--- ---- Act
-
-module _ (s : State) (block : Block) (priority : ℕ) (out : List ℕ) where
-  pub act-11 : Usable s → ltb (length out) mostBytes ≡ true → actOf s block priority out ≡ refuse s out 11
-  unfolding actOf
-  act-11 u g = rw (u .limits, u .lists, g)
-
-  pub act-22 : Usable s → ltb (length out) mostBytes ≡ false → idle (s .bench) ≡ true → actOf s block priority out ≡ refuse s out 22
-  unfolding actOf
-  act-22 u g h = rw (u .limits, u .lists, g, h)
-
-  pub act-done : Usable s → ltb (length out) mostBytes ≡ false → idle (s .bench) ≡ false
-      → actOf s block priority out ≡ actedOf (over s) block priority out (viewOf (beatOf (s .bench))) (actAt (placeIn (beatOf (s .bench))))
-  unfolding actOf
-  act-done u g h = rw (u .limits, u .lists, g, h)
-
-  -- Act refuses by k
-  pub data ActCause : ℕ → Type 0 where
-    act-limits : beyond (s .bench) ≡ true → ActCause 9
-    act-lists : beyond (s .bench) ≡ false → shortLists (s .lent) ≡ true → ActCause 8
-    act-buffer : Usable s → ltb (length out) mostBytes ≡ true → ActCause 11
-    act-idle : Usable s → ltb (length out) mostBytes ≡ false → idle (s .bench) ≡ true → ActCause 22
-
-  pub act-cause : (k : ℕ) → actOf s block priority out .answer .reply ≡ refused k → ActCause k
-  unfolding actOf actedOf
-  act-cause k r =
-      either (beyond (s .bench)) (λ e. subst ActCause (same-number 9 k (rw e at r)) (act-limits e)) (λ e.
-      either (shortLists (s .lent)) (λ f. subst ActCause (same-number 8 k (rw (e, f) at r)) (act-lists e f)) (λ f.
-      let u : Usable s = record { limits = e; lists = f } in
-      either (ltb (length out) mostBytes) (λ g. subst ActCause (same-number 11 k (rw (e, f, g) at r)) (act-buffer u g)) (λ g.
-      either (idle (s .bench)) (λ h. subst ActCause (same-number 22 k (rw (e, f, g, h) at r)) (act-idle u g h)) (λ h.
-      acted-apart _ k (rw (e, f, g, h) at r)))))
-
-  pub act-refuses : {k : ℕ} → ActCause k → actOf s block priority out ≡ refuse s out k
-  act-refuses (act-limits e) = act-9 s e block priority out
-  act-refuses (act-lists e f) = act-8 s e f block priority out
-  act-refuses (act-buffer u g) = act-11 u g
-  act-refuses (act-idle u g h) = act-22 u g h
-
-  -- a refused Act leaves everything, the buffer too
-  pub act-refused : (k : ℕ) → actOf s block priority out .answer .reply ≡ refused k → actOf s block priority out ≡ refuse s out k
-  act-refused k r = act-refuses (act-cause k r)
-
-  pub act-leaves : (k : ℕ) → actOf s block priority out .answer .reply ≡ refused k
-      → (actOf s block priority out .held ≡ s) × (actOf s block priority out .answer .out ≡ out)
-  act-leaves k r = leaves (act-refused k r)
-
--- ---- 9 and 8 are given under no other condition (each other number has one cause alone)
-
-module _ (s : State) where
-  pub begin-9-only : {beat : ℕ} → BeginCause s beat 9 → beyond (s .bench) ≡ true
-  begin-9-only (begin-limits e) = e
-
-  pub begin-8-only : {beat : ℕ} → BeginCause s beat 8 → shortLists (s .lent) ≡ true
-  begin-8-only (begin-lists e f) = f
-
-  pub receive-9-only : {bytes : List ℕ} → ReceiveCause s bytes 9 → beyond (s .bench) ≡ true
-  receive-9-only (receive-limits e) = e
-  receive-9-only {bytes} (receive-unread u g c) = absurd (omega (arith, read-number (s .bench .n) bytes c))
-
-  pub receive-8-only : {bytes : List ℕ} → ReceiveCause s bytes 8 → shortLists (s .lent) ≡ true
-  receive-8-only (receive-lists e f) = f
-  receive-8-only {bytes} (receive-unread u g c) = absurd (omega (arith, read-number (s .bench .n) bytes c))
-
-  pub act-9-only : {block : Block} {priority : ℕ} {out : List ℕ} → ActCause s block priority out 9 → beyond (s .bench) ≡ true
-  act-9-only (act-limits e) = e
-
-  pub act-8-only : {block : Block} {priority : ℕ} {out : List ℕ} → ActCause s block priority out 8 → shortLists (s .lent) ≡ true
-  act-8-only (act-lists e f) = f
+    judged (refuse s []) (begun s beat) (λ (r : Step). r .held .lent ≡ s .lent) (beginRows s beat)
+    (λ k e. refl)
+    (λ e. refl)

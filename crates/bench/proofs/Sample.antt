@@ -6,9 +6,10 @@ use mathlib.Core.Option.{Option, some, none}
 use mathlib.Core.Path.{_≡_, refl}
 use lib.ListN.{replicate}
 use Rattle.message.specs.Choice as choice
+use Rattle.message.specs.Causes.{firstFailure, judgedBy}
 use Rattle.message.specs.Numbers.{part, put, numberAt, numbersAt, bytesFor, bytesForEach}
 use Rattle.message.specs.Logs.{Block, Log, isPrefix, sameLog, inStep, namesOf, countsOf}
-use Rattle.message.specs.Message.{Meaning, logMessage, proposalMessage, messageBytes, bytesOf, malformed, readOf, meaningIn}
+use Rattle.message.specs.Message.{Meaning, logMessage, proposalMessage, messageBytes, bytesOf, malformed, meaningIn}
 use Rattle.message.specs.Store.{logAt}
 use Rattle.agreement.specs.Sets.{weigh, member, adding, removing, isYes}
 use Rattle.agreement.specs.Reading as reading
@@ -215,7 +216,7 @@ endingLines = replicate 5 (line none []) ++ (line none five ∷ [])
 pub rolls-hold : map roll (sample ∷ twoViews ∷ asleep ∷ late ∷ parting ∷ keeping ∷ countParting ∷ forged ∷ ending ∷ [])
     ≡ sampleLines ∷ twoViewsLines ∷ asleepLines ∷ lateLines ∷ partingLines ∷ keepingLines ∷ countPartingLines ∷ forgedLines ∷ endingLines ∷ []
 unfolding
-    rollFrom beginOf receiveOf readOf malformed meaningIn choice.anyOf actOf actedOf changed snappedBy settled usedOf fileMessage keptAgreement keptProposals agreementOf
+    rollFrom beginOf receiveOf judgedBy firstFailure malformed meaningIn choice.anyOf actOf actedOf changed snappedBy settled usedOf fileMessage keptAgreement keptProposals agreementOf
     proposalsOf withAgreement anyPlace beyondAgreement beyondProposals beyond propose vote makes voteAmong keptProposal fileProposalOf bestOf gradeAmong
     member adding removing fileOf overlong maySupport supports hasGrade under prefixes candidates reading.longer longestOf longest weigh logAt messageBytes
     bytesOf part put numberAt numbersAt bytesFor bytesForEach isPrefix sameLog inStep namesOf countsOf

@@ -3,9 +3,10 @@ use Prim.Native.Nat.{ℕ, _+_}
 use mathlib.Core.List.{List, [], _∷_, map}
 use mathlib.Core.Path.{_≡_, refl}
 use Rattle.message.specs.Choice.{anyOf}
+use Rattle.message.specs.Causes.{firstFailure, judgedBy}
 use Rattle.message.specs.Numbers.{numberAt, numbersAt, bytesFor, bytesForEach}
 use Rattle.message.specs.Logs.{Log, inStep, namesOf, countsOf}
-use Rattle.message.specs.Message.{Meaning, logMessage, proposalMessage, messageBytes, bytesOf, malformed, readOf, meaningIn}
+use Rattle.message.specs.Message.{Meaning, logMessage, proposalMessage, messageBytes, bytesOf, malformed, meaningIn}
 use Rattle.agreement.specs.Sets.{weigh, member, adding, removing}
 use Rattle.agreement.specs.Filing.{first, fileOf}
 use Rattle.agreement.specs.Proposals.{fileProposalOf}
@@ -89,6 +90,6 @@ rows =
 pub rows-hold : map (λ (r : Row). receiveOf (held (gathering (r .beat + 1)) leastLent leastLent) (bytesOf (r .message)) .answer .reply) rows
     ≡ map (λ (r : Row). r .reply) rows
 unfolding
-    receiveOf fileMessage fileOf fileProposalOf agreementOf proposalsOf readOf malformed meaningIn anyOf numberAt numbersAt inStep bytesOf messageBytes
+    receiveOf fileMessage fileOf fileProposalOf agreementOf proposalsOf judgedBy firstFailure malformed meaningIn anyOf numberAt numbersAt inStep bytesOf messageBytes
     bytesFor bytesForEach namesOf countsOf beyond beyondAgreement beyondProposals anyPlace weigh member adding removing
 rows-hold = refl

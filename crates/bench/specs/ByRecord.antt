@@ -2,15 +2,14 @@
 -- proved of (document 01, "Four calls", "Calendar of acts", "From the input", "From the state"). In each, the first failure is given, and a refusal
 -- leaves record, lists and buffer as they were. Assumes nothing.
 use Prim.Native.Nat.{ℕ, zero, suc, _+_}
-use mathlib.Core.Bool.{not}
-use mathlib.Core.List.{List, []}
+use mathlib.Core.List.{List, [], _∷_, _++_}
 use mathlib.Core.Option.{Option, some, none}
-use lib.Dec.{ltb}
 use lib.ListN.{length}
 use Rattle.message.specs.Choice.{pick}
+use Rattle.message.specs.Causes.{Cause, by, judgedBy}
 use Rattle.message.specs.Numbers.{put}
 use Rattle.message.specs.Logs.{Block, Log, isPrefix, namesOf, countsOf}
-use Rattle.message.specs.Message.{agreementNumber, Meaning, logMessage, proposalMessage, bytesOf, Reading, refused as unread, means, readOf}
+use Rattle.message.specs.Message.{agreementNumber, Meaning, logMessage, proposalMessage, bytesOf, meaningIn}
 use Rattle.message.specs.Store.{logAt}
 use Rattle.agreement.specs.Limits.{mostSenders}
 use Rattle.agreement.specs.Sets.{isYes}
@@ -20,15 +19,20 @@ use Rattle.agreement.specs.Grades.{gradeOf}
 use Rattle.agreement.specs.Proposals.{emptyProposals, ProposalFiling, fileProposalOf, Proposals}
 use Rattle.agreement.specs.Kept.{keptProposal}
 use Rattle.agreement.specs.Heard.{voteAmong}
-use Rattle.bench.specs.Layout.{logsPlace, proposalsPlace, decidedPlace, mostBytes, Lent, shortLists, outOfRange}
-use Rattle.bench.specs.Calendar.{lastBeat, logsShut, proposalsShut, viewOf, placeIn, Act, actAt, gradeRead, snapshotTaken}
-use Rattle.bench.specs.Calls.{refused, done, took, acted, State, Opening, Step, openTo}
+use Rattle.bench.specs.Layout.{logsPlace, proposalsPlace, decidedPlace, Lent, shortLists}
+use Rattle.bench.specs.Calendar.{logsShut, proposalsShut, viewOf, placeIn, Act, actAt, gradeRead, snapshotTaken}
+use Rattle.bench.specs.Calls.{refused, done, took, acted, State, Opening, Step}
+use Rattle.bench.specs.Causes.{openCauses, beginCauses, receiveCauses, actCauses}
 use Rattle.bench.specs.Acts.{Seen, usedFirst, usedOfGrade, isView, makes, decides, Stand, outAfter}
 use Rattle.bench.specs.Record.{freshBench, agreementOf, proposalsOf, beatOf, notAboveLast, idle, withAgreement, withProposals, withGatheringOver, withDecided, withParted, beyond, Bench}
 
 -- refused by k: nothing else changes
 abbrev pub refuse : State → List ℕ → ℕ → Step
 refuse s out k = record { held = s; answer = record { reply = refused k; out = out } }
+
+-- 9 and 8 come first in each call on a record.
+abbrev pub recordCauses : State → List Cause
+recordCauses s = by 9 (beyond (s .bench)) ∷ by 8 (shortLists (s .lent)) ∷ []
 
 -- ---- Open
 
@@ -38,10 +42,7 @@ notOpened k = record { reply = refused k; bench = freshBench 0 0 }
 
 -- 7, 8; the lists are not written
 unfoldable pub openOf : ℕ → ℕ → Lent → Opening
-openOf n own l =
-    pick (outOfRange n own) (notOpened 7)
-    (pick (shortLists l) (notOpened 8)
-    (record { reply = done; bench = freshBench n own }))
+openOf n own l = judgedBy (openCauses n own l) notOpened (record { reply = done; bench = freshBench n own })
 
 -- ---- Begin
 
@@ -69,14 +70,13 @@ begunBench b beat = record {
 abbrev pub begun : State → ℕ → Step
 begun s beat = record { held = record { bench = begunBench (s .bench) beat; lent = s .lent }; answer = record { reply = done; out = [] } }
 
--- 9, 8, 10, 20; the lists are not written
+-- 9, 8, 10, 20
+abbrev pub beginRows : State → ℕ → List Cause
+beginRows s beat = recordCauses s ++ beginCauses beat (notAboveLast (s .bench) beat)
+
+-- the lists are not written
 unfoldable pub beginOf : State → ℕ → Step
-beginOf s beat =
-    pick (beyond (s .bench)) (refuse s [] 9)
-    (pick (shortLists (s .lent)) (refuse s [] 8)
-    (pick (ltb lastBeat beat) (refuse s [] 10)
-    (pick (notAboveLast (s .bench) beat) (refuse s [] 20)
-    (begun s beat))))
+beginOf s beat = judgedBy (beginRows s beat) (refuse s []) (begun s beat)
 
 -- ---- filing
 
@@ -118,18 +118,12 @@ fileMessage s bytes (proposalMessage m priority) = fileProposal s bytes (m .view
 abbrev pub taken : Outcome → Step
 taken f = record { held = f .held; answer = record { reply = took (f .word); out = [] } }
 
--- 1 to 6, 21
-abbrev pub receives : State → List ℕ → Reading → Step
-receives s bytes (unread k) = refuse s [] k
-receives s bytes (means m) = pick (not (openTo m (beatOf (s .bench)))) (refuse s [] 21) (taken (fileMessage s bytes m))
-
 -- 9, 8, 22, 1 to 6, 21
+abbrev pub receiveRows : State → List ℕ → List Cause
+receiveRows s bytes = recordCauses s ++ receiveCauses (idle (s .bench)) (s .bench .n) (beatOf (s .bench)) bytes
+
 unfoldable pub receiveOf : State → List ℕ → Step
-receiveOf s bytes =
-    pick (beyond (s .bench)) (refuse s [] 9)
-    (pick (shortLists (s .lent)) (refuse s [] 8)
-    (pick (idle (s .bench)) (refuse s [] 22)
-    (receives s bytes (readOf (s .bench .n) bytes))))
+receiveOf s bytes = judgedBy (receiveRows s bytes) (refuse s []) (taken (fileMessage s bytes (meaningIn bytes)))
 
 -- ---- what an act of view v sees
 
@@ -196,11 +190,13 @@ actedOf s block priority out v a =
 abbrev pub over : State → State
 over s = record { bench = withGatheringOver (s .bench); lent = s .lent }
 
+-- the act of the beat, by its row
+abbrev pub actedNow : State → Block → ℕ → List ℕ → Step
+actedNow s block priority out = actedOf (over s) block priority out (viewOf (beatOf (s .bench))) (actAt (placeIn (beatOf (s .bench))))
+
 -- 9, 8, 11, 22
+abbrev pub actRows : State → List ℕ → List Cause
+actRows s out = recordCauses s ++ actCauses out (idle (s .bench))
+
 unfoldable pub actOf : State → Block → ℕ → List ℕ → Step
-actOf s block priority out =
-    pick (beyond (s .bench)) (refuse s out 9)
-    (pick (shortLists (s .lent)) (refuse s out 8)
-    (pick (ltb (length out) mostBytes) (refuse s out 11)
-    (pick (idle (s .bench)) (refuse s out 22)
-    (actedOf (over s) block priority out (viewOf (beatOf (s .bench))) (actAt (placeIn (beatOf (s .bench))))))))
+actOf s block priority out = judgedBy (actRows s out) (refuse s out) (actedNow s block priority out)

@@ -5,9 +5,9 @@ use Prim.Native.Nat.{ℕ, zero, suc}
 use mathlib.Core.Bool.{Bool, true, false, not, _||_}
 use mathlib.Core.List.{List, [], _∷_}
 use mathlib.Core.Option.{Option, some, none}
-use lib.Dec.{eqb, leb, ltb}
-use lib.ListN.{length}
+use lib.Dec.{eqb, leb}
 use Rattle.message.specs.Choice.{pick}
+use Rattle.message.specs.Causes.{Cause, firstFailure}
 use Rattle.message.specs.Logs.{Block, Log, sameLog}
 use Rattle.message.specs.Message.{Content, agreementNumber, Meaning, logMessage, proposalMessage, Reading, refused as unread, means}
 use Rattle.agreement.specs.Record.{SnapshotNumber, one, two}
@@ -15,9 +15,10 @@ use Rattle.agreement.specs.Filing.{Word}
 use Rattle.agreement.specs.Kept.{wordOn, sameProposal}
 use Rattle.agreement.specs.Heard.{heardLogs, votersOf, gradeNow, gradeWith, ProposalHeard, heardProposals, voteAmong}
 use Rattle.bench.specs.Terms.{Seat, weightOf, readIn}
-use Rattle.bench.specs.Layout.{Lent, shortLists, outOfRange, mostBytes}
-use Rattle.bench.specs.Calendar.{lastBeat, snapshotBeat, viewOf, placeIn, Act, actAt, gradeRead}
-use Rattle.bench.specs.Calls.{Call, begin, receive, act, bufferIn, Reply, refused, done, took, acted, Answer, openTo}
+use Rattle.bench.specs.Layout.{Lent}
+use Rattle.bench.specs.Calendar.{snapshotBeat, viewOf, placeIn, Act, actAt, gradeRead}
+use Rattle.bench.specs.Calls.{Call, begin, receive, act, bufferIn, Reply, refused, done, took, acted, Answer}
+use Rattle.bench.specs.Causes.{openCauses, beginCauses, receiveCauses, actCauses}
 use Rattle.bench.specs.Acts.{Seen, usedFirst, usedOfGrade, makes, outAfter, decides, Stand, settle}
 
 -- ---- the history
@@ -56,34 +57,22 @@ beatNow p = orZero (p .last)
 
 -- ---- refusals: 9 never arises here, and 8 at Open only
 
--- Open: 7, n or own number out of range; 8, a lent list too short
+-- Open: 7, 8
 unfoldable pub openRefusal : Seat → Lent → Option ℕ
-openRefusal S l = pick (outOfRange (S .terms .n) (S .own)) (some 7) (pick (shortLists l) (some 8) none)
+openRefusal S l = firstFailure (openCauses (S .terms .n) (S .own) l)
 
 abbrev pub notAbove : ℕ → Option ℕ → Bool
 notAbove b none = false
 notAbove b (some last) = leb b last
 
--- Begin: 10, a beat past the last; 20, not above the last begun
-abbrev pub beginRefusal : History → ℕ → Option ℕ
-beginRefusal p b = pick (ltb lastBeat b) (some 10) (pick (notAbove b (p .last)) (some 20) none)
-
--- Receive: 22, no gathering under way; 1 to 6 by the message; 21, its view not open to its kind at this beat
-abbrev pub readingRefusal : ℕ → Reading → Option ℕ
-readingRefusal b (unread k) = some k
-readingRefusal b (means m) = pick (not (openTo m b)) (some 21) none
-
-abbrev pub receiveRefusal : Seat → History → List ℕ → Option ℕ
-receiveRefusal S p bytes = pick (not (p .gathering)) (some 22) (readingRefusal (beatNow p) (readIn (S .terms) bytes))
-
--- Act: 11, an outgoing buffer too short for the longest message; 22
-abbrev pub actRefusal : History → List ℕ → Option ℕ
-actRefusal p out = pick (ltb (length out) mostBytes) (some 11) (pick (not (p .gathering)) (some 22) none)
+-- Begin: 10, 20. Receive: 22, 1 to 6, 21. Act: 11, 22.
+abbrev pub causes : Seat → History → Call → List Cause
+causes S p (begin b) = beginCauses b (notAbove b (p .last))
+causes S p (receive bytes) = receiveCauses (not (p .gathering)) (S .terms .n) (beatNow p) bytes
+causes S p (act block priority out) = actCauses out (not (p .gathering))
 
 unfoldable pub refusal : Seat → History → Call → Option ℕ
-refusal S p (begin b) = beginRefusal p b
-refusal S p (receive bytes) = receiveRefusal S p bytes
-refusal S p (act block priority out) = actRefusal p out
+refusal S p c = firstFailure (causes S p c)
 
 -- ---- filing
 

@@ -1,8 +1,9 @@
 -- What a reader of this crate must believe. Each definition names its place in document 01.
--- Where logs stand, the terms of a volume, the calendar, the calls, and what an act makes and decides:
+-- Where logs stand, the terms of a volume, the calendar, the calls, their refusals, and what an act makes and decides:
 pub mod Layout
 pub mod Calendar
 pub mod Calls
+pub mod Causes
 pub mod Acts
 pub mod Terms
 -- One bench by its list of calls:

@@ -1,23 +1,25 @@
 -- Act, case by case, as the code finds it: its refusals, and the row of the calendar. Assumes nothing.
 use Prim.Native.Nat.{ℕ, zero, suc, _<_, _≤_}
 use mathlib.Core.List.{List, []}
+use mathlib.Core.Logic.{inl, inr}
 use mathlib.Core.Bool.{Bool, true, false}
 use mathlib.Core.Path.{_≡_, refl, ap, sym, subst, _∙_}
 use lib.ListN.{length}
 use borrow.Author.Tests.{lt-ltb, le-ltb}
 use Rattle.message.specs.Logs.{Block}
+use Rattle.message.proofs.CauseLaws.{FailsBy, first-failure, no-failure}
 use Rattle.bench.specs.Layout.{mostBytes, shortLists}
 use Rattle.bench.specs.Calendar.{viewOf, placeIn, Act, proposing, voting, deciding, snapping, actAt}
 use Rattle.bench.specs.Calls.{State}
 use Rattle.bench.specs.Record.{Bench, benchFrom, beatOf, idle, beyond}
-use Rattle.bench.specs.ByRecord.{refuse, usedOf, seenOf, settled, snappedBy, changed, actedOf, over, actOf}
+use Rattle.bench.specs.ByRecord.{usedOf, seenOf, settled, snappedBy, changed, actedOf, over, actOf, actRows}
 use Rattle.agreement.specs.Record.{one}
 use Rattle.bench.specs.Answers.{lentAs, heldWith, ActGives}
-use Rattle.bench.specs.Tested.{Usable, Tested}
+use Rattle.bench.specs.Tested.{Tested}
 use Rattle.bench.specs.declared.Head.{Head}
 use Rattle.bench.specs.declared.Made.{Made}
 use Rattle.bench.specs.declared.Made.the-variants as makings
-use Rattle.bench.proofs.Refusals.{act-9, act-8, act-11, act-22, act-done}
+use Rattle.bench.proofs.Refusals.{act-judged}
 use Rattle.bench.proofs.Replies.{made-refused}
 use Rattle.bench.proofs.ActLaws.{makes-deciding, makes-snapping, changed-deciding, changed-snapping, voted-any}
 use Rattle.bench.proofs.TestedLaws.{is-usable, within-limits, tested-over}
@@ -120,32 +122,31 @@ module _ (h : Head) (e o p q names counts out : List ℕ) (block : Block) (prior
   Refused k = ActGives (actOf held block priority out) (makings.Refused k) (benchFrom h e o p q) names counts out
 
   -- refused by k: all is as it was
-  act-by : (k : ℕ) → actOf held block priority out ≡ refuse held out k → Refused k
-  act-by k y = rw y (record { answered = made-refused out k; bench = refl; nameList = refl; countList = refl; buffer = refl })
+  act-by : (k : ℕ) → FailsBy (actRows held out) k → Refused k
+  act-by k y =
+      rw (act-judged held block priority out .refuses k (first-failure (actRows held out) k y))
+      (record { answered = made-refused out k; bench = refl; nameList = refl; countList = refl; buffer = refl })
 
   module _ (r : Bool) (x : r ≡ beyond (benchFrom h e o p [])) where
     whole : r ≡ beyond (benchFrom h e o p q)
     whole = x ∙ beyond-of h e o p q
 
     pub act-by-9 : r ≡ true → Refused 9
-    act-by-9 y = act-by 9 (act-9 held (sym whole ∙ y) block priority out)
+    act-by-9 y = act-by 9 (inl (sym whole ∙ y, refl))
 
     module _ (y : r ≡ false) (z : Bool) (f : z ≡ shortLists (lentAs names counts)) where
       pub act-by-8 : z ≡ true → Refused 8
-      act-by-8 u = act-by 8 (act-8 held (sym whole ∙ y) (sym f ∙ u) block priority out)
+      act-by-8 u = act-by 8 (inr (sym whole ∙ y, inl (sym f ∙ u, refl)))
 
       module _ (u : z ≡ false) where
-        usable : Usable held
-        usable = is-usable (benchFrom h e o p q) names counts r z whole y f u
-
         pub act-by-11 : length out < mostBytes → Refused 11
-        act-by-11 l = act-by 11 (act-11 held block priority out usable (lt-ltb (length out) mostBytes l))
+        act-by-11 l = act-by 11 (inr (sym whole ∙ y, inr (sym f ∙ u, inl (lt-ltb (length out) mostBytes l, refl))))
 
         module _ (l : mostBytes ≤ length out) (i : Bool) (g : i ≡ idle (bare h)) where
           pub act-by-22 : i ≡ true → Refused 22
-          act-by-22 v = act-by 22 (act-22 held block priority out usable (le-ltb (length out) mostBytes l) (sym g ∙ v))
+          act-by-22 v = act-by 22 (inr (sym whole ∙ y, inr (sym f ∙ u, inr (le-ltb (length out) mostBytes l, inl (sym g ∙ v, refl)))))
 
           pub acts-by : (a : Made) (c : Bench) (ns cs out′ : List ℕ) → i ≡ false
               → ActGives (actedOf (over held) block priority out (viewOf (beatOf (bare h))) (actAt (placeIn (beatOf (bare h))))) a c ns cs out′
               → ActGives (actOf held block priority out) a c ns cs out′
-          acts-by a c ns cs out′ v w = rw (act-done held block priority out usable (le-ltb (length out) mostBytes l) (sym g ∙ v)) w
+          acts-by a c ns cs out′ v w = rw (act-judged held block priority out .does (no-failure (actRows held out) (sym whole ∙ y, (sym f ∙ u, (le-ltb (length out) mostBytes l, (sym g ∙ v, tt)))))) w

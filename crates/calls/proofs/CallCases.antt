@@ -1,15 +1,17 @@
 -- Open, Begin and Receive, case by case, as the code finds them: what was tested, and so what is answered and left. Assumes nothing.
 use Prim.Native.Nat.{ℕ, _<_, _≤_}
 use mathlib.Core.List.{List, []}
+use mathlib.Core.Logic.{inl, inr}
 use mathlib.Core.Bool.{Bool, true, false}
 use mathlib.Core.Path.{_≡_, refl, sym, _∙_}
 use borrow.Author.Tests.{lt-ltb, le-ltb}
-use Rattle.message.specs.Message.{readOf}
+use Rattle.message.proofs.CauseLaws.{FailsBy, first-failure, no-failure}
 use Rattle.bench.specs.Layout.{shortLists, outOfRange}
 use Rattle.bench.specs.Calendar.{lastBeat}
 use Rattle.bench.specs.Calls.{done, State, Opening}
 use Rattle.bench.specs.Record.{Bench, benchFrom, freshBench, notAboveLast, idle, beyond}
-use Rattle.bench.specs.ByRecord.{refuse, notOpened, openOf, begunBench, beginOf, receives, receiveOf}
+use Rattle.bench.specs.ByRecord.{notOpened, openOf, begunBench, beginRows, beginOf, receiveRows, receiveOf}
+use Rattle.bench.specs.Causes.{openCauses}
 use Rattle.bench.specs.Tested.{Usable}
 use Rattle.bench.specs.Answers.{lentAs, heldWith, startReply, OpenGives, BeginGives, ReceiveGives}
 use Rattle.bench.specs.declared.Head.{Head}
@@ -17,10 +19,10 @@ use Rattle.bench.specs.declared.Start.{Start}
 use Rattle.bench.specs.declared.Start.the-variants as starts
 use Rattle.bench.specs.declared.Taken.{Taken}
 use Rattle.bench.specs.declared.Taken.the-variants as takings
-use Rattle.bench.proofs.Refusals.{open-7, open-8, open-done, begin-9, begin-8, begin-10, begin-20, begin-done, receive-9, receive-8, receive-22, receive-on}
+use Rattle.bench.proofs.Refusals.{open-done, receive-on, open-refused, begin-judged, receive-judged}
 use Rattle.bench.proofs.Replies.{start-done, start-refused}
 use Rattle.bench.proofs.TestedLaws.{is-usable}
-use Rattle.calls.specs.Steps.{bare}
+use Rattle.calls.specs.Steps.{bare, receives}
 use Rattle.calls.proofs.LimitCases.{beyond-of}
 use Rattle.calls.proofs.ReceiveCases.{receive-by}
 
@@ -35,14 +37,17 @@ module _ (n own : ℕ) (names counts : List ℕ) (b : Bench) (r : Bool) (e : r �
   gives t a o q h = rw o (record { answered = q; bench = h; nameList = refl; countList = refl })
 
   pub open-by-7 : r ≡ true → b ≡ freshBench 0 0 → Opened (starts.Refused 7)
-  open-by-7 t h = gives (notOpened 7) (starts.Refused 7) (open-7 n own (lentAs names counts) (sym e ∙ t)) (start-refused 7) h
+  open-by-7 t h =
+      gives (notOpened 7) (starts.Refused 7) (open-refused n own (lentAs names counts) 7 (first-failure (openCauses n own (lentAs names counts)) 7 (inl (sym e ∙ t, refl)))) (start-refused 7) h
 
   module _ (t : r ≡ false) (q : Bool) (f : q ≡ shortLists (lentAs names counts)) where
     pub open-by-8 : q ≡ true → b ≡ freshBench 0 0 → Opened (starts.Refused 8)
-    open-by-8 u h = gives (notOpened 8) (starts.Refused 8) (open-8 n own (lentAs names counts) (sym e ∙ t) (sym f ∙ u)) (start-refused 8) h
+    open-by-8 u h =
+        gives (notOpened 8) (starts.Refused 8) (open-refused n own (lentAs names counts) 8 (first-failure (openCauses n own (lentAs names counts)) 8 (inr (sym e ∙ t, inl (sym f ∙ u, refl))))) (start-refused 8) h
 
     pub opened : q ≡ false → b ≡ freshBench n own → Opened starts.Done
-    opened u h = gives (record { reply = done; bench = freshBench n own }) starts.Done (open-done n own (lentAs names counts) (sym e ∙ t) (sym f ∙ u)) start-done h
+    opened u h =
+        gives (record { reply = done; bench = freshBench n own }) starts.Done (open-done n own (lentAs names counts) (no-failure (openCauses n own (lentAs names counts)) (sym e ∙ t, (sym f ∙ u, tt)))) start-done h
 
 -- ---- the tests that the other calls share: the code does not look at the priorities
 
@@ -63,27 +68,29 @@ module _ (h : Head) (e o p q names counts : List ℕ) (r : Bool) (x : r ≡ beyo
     Begun a c = BeginGives (beginOf held beat) a c names counts
 
     -- refused by k: all is as it was
-    begin-by : (k : ℕ) → beginOf held beat ≡ refuse held [] k → Begun (starts.Refused k) (benchFrom h e o p q)
-    begin-by k y = rw y (record { answered = start-refused k; bench = refl; nameList = refl; countList = refl })
+    begin-by : (k : ℕ) → FailsBy (beginRows held beat) k → Begun (starts.Refused k) (benchFrom h e o p q)
+    begin-by k y =
+        rw (begin-judged held beat .refuses k (first-failure (beginRows held beat) k y))
+        (record { answered = start-refused k; bench = refl; nameList = refl; countList = refl })
 
     pub begin-by-9 : r ≡ true → Begun (starts.Refused 9) (benchFrom h e o p q)
-    begin-by-9 t = begin-by 9 (begin-9 held (sym whole ∙ t) beat)
+    begin-by-9 t = begin-by 9 (inl (sym whole ∙ t, refl))
 
     module _ (y : r ≡ false) (z : Bool) (f : z ≡ shortLists (lentAs names counts)) where
       pub begin-by-8 : z ≡ true → Begun (starts.Refused 8) (benchFrom h e o p q)
-      begin-by-8 u = begin-by 8 (begin-8 held (sym whole ∙ y) (sym f ∙ u) beat)
+      begin-by-8 u = begin-by 8 (inr (sym whole ∙ y, inl (sym f ∙ u, refl)))
 
       module _ (u : z ≡ false) where
         pub begin-by-10 : lastBeat < beat → Begun (starts.Refused 10) (benchFrom h e o p q)
-        begin-by-10 l = begin-by 10 (begin-10 held beat (usable y z f u) (lt-ltb lastBeat beat l))
+        begin-by-10 l = begin-by 10 (inr (sym whole ∙ y, inr (sym f ∙ u, inl (lt-ltb lastBeat beat l, refl))))
 
         module _ (l : beat ≤ lastBeat) (i : Bool) (g : i ≡ notAboveLast (bare h) beat) where
           pub begin-by-20 : i ≡ true → Begun (starts.Refused 20) (benchFrom h e o p q)
-          begin-by-20 v = begin-by 20 (begin-20 held beat (usable y z f u) (le-ltb lastBeat beat l) (sym g ∙ v))
+          begin-by-20 v = begin-by 20 (inr (sym whole ∙ y, inr (sym f ∙ u, inr (le-ltb lastBeat beat l, inl (sym g ∙ v, refl)))))
 
           pub begins : (c : Bench) → i ≡ false → c ≡ begunBench (benchFrom h e o p q) beat → Begun starts.Done c
           begins c v w =
-              rw (begin-done held beat (usable y z f u) (le-ltb lastBeat beat l) (sym g ∙ v))
+              rw (begin-judged held beat .does (no-failure (beginRows held beat) (sym whole ∙ y, (sym f ∙ u, (le-ltb lastBeat beat l, (sym g ∙ v, tt))))))
               (record { answered = start-done; bench = w; nameList = refl; countList = refl })
 
   -- ---- Receive
@@ -92,17 +99,20 @@ module _ (h : Head) (e o p q names counts : List ℕ) (r : Bool) (x : r ≡ beyo
     abbrev Refused : ℕ → Type 0
     Refused k = ReceiveGives (receiveOf held bytes) (takings.Refused k) (benchFrom h e o p q) names counts
 
+    refused : (k : ℕ) → FailsBy (receiveRows held bytes) k → Refused k
+    refused k y = receive-by (benchFrom h e o p q) names counts k (receiveOf held bytes) (receive-judged held bytes .refuses k (first-failure (receiveRows held bytes) k y))
+
     pub receive-by-9 : r ≡ true → Refused 9
-    receive-by-9 t = receive-by (benchFrom h e o p q) names counts 9 (receiveOf held bytes) (receive-9 held (sym whole ∙ t) bytes)
+    receive-by-9 t = refused 9 (inl (sym whole ∙ t, refl))
 
     module _ (y : r ≡ false) (z : Bool) (f : z ≡ shortLists (lentAs names counts)) where
       pub receive-by-8 : z ≡ true → Refused 8
-      receive-by-8 u = receive-by (benchFrom h e o p q) names counts 8 (receiveOf held bytes) (receive-8 held (sym whole ∙ y) (sym f ∙ u) bytes)
+      receive-by-8 u = refused 8 (inr (sym whole ∙ y, inl (sym f ∙ u, refl)))
 
       module _ (u : z ≡ false) (i : Bool) (g : i ≡ idle (bare h)) where
         pub receive-by-22 : i ≡ true → Refused 22
-        receive-by-22 v = receive-by (benchFrom h e o p q) names counts 22 (receiveOf held bytes) (receive-22 held bytes (usable y z f u) (sym g ∙ v))
+        receive-by-22 v = refused 22 (inr (sym whole ∙ y, inr (sym f ∙ u, inl (sym g ∙ v, refl))))
 
-        pub receives-by : (a : Taken) (c : Bench) (ns cs : List ℕ) → i ≡ false → ReceiveGives (receives held bytes (readOf (h .n) bytes)) a c ns cs
+        pub receives-by : (a : Taken) (c : Bench) (ns cs : List ℕ) → i ≡ false → ReceiveGives (receives held bytes) a c ns cs
             → ReceiveGives (receiveOf held bytes) a c ns cs
         receives-by a c ns cs v w = rw (receive-on held bytes (usable y z f u) (sym g ∙ v)) w

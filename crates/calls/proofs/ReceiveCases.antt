@@ -2,23 +2,26 @@
 use Prim.Native.Nat.{ℕ}
 use mathlib.Core.Bool.{Bool, true, false}
 use mathlib.Core.List.{List, []}
-use mathlib.Core.Path.{_≡_, refl, ap, _∙_}
-use Rattle.message.specs.Message.{readOf, readingOf}
+use mathlib.Core.Path.{_≡_, refl}
+use Rattle.message.specs.Message.{Meaning, logMessage, proposalMessage, meaningIn, means, readOf, contentOf, readingOf}
 use Rattle.message.specs.declared.Head as message
 use Rattle.message.specs.declared.Message.{Message}
 use Rattle.message.specs.declared.Message.the-variants as answers
+use Rattle.message.proofs.CauseLaws.{judged-refused}
 use Rattle.message.proofs.Readings.{read-as-log, read-as-proposal, read-as-refused}
 use Rattle.bench.specs.Calendar.{logWindow, proposalWindow}
 use Rattle.bench.specs.Calls.{Step}
 use Rattle.bench.specs.Record.{Bench, benchFrom, beatOf}
-use Rattle.bench.specs.ByRecord.{refuse, receives}
+use Rattle.bench.specs.ByRecord.{refuse, fileMessage, taken}
 use Rattle.bench.specs.Answers.{heldWith, ReceiveGives}
 use Rattle.bench.specs.declared.Head.{Head}
 use Rattle.bench.specs.declared.Taken.the-variants as takings
 use Rattle.bench.specs.declared.ReceivedHead.{ReceivedHead}
 use Rattle.bench.proofs.Replies.{taken-refused}
 use Rattle.bench.proofs.ActLaws.{file-log, file-proposal}
-use Rattle.calls.specs.Steps.{bare, LogFiled, LogTaken, ProposalFiled, ProposalTaken}
+use Rattle.calls.specs.Steps.{bare, LogFiled, LogTaken, ProposalFiled, ProposalTaken, receives, receivesAs}
+use Rattle.bench.specs.Causes.{messageCauses}
+use Rattle.bench.proofs.Refusals.{message-refused, message-read}
 
 -- refused by k: all is as it was
 pub receive-by : (b : Bench) (names counts : List ℕ) (k : ℕ) (t : Step) → t ≡ refuse (heldWith b names counts) [] k
@@ -50,16 +53,22 @@ module _ (h : Head) (e o p s names counts bytes : List ℕ) (m : Message) (q : r
   abbrev b : Bench
   b = benchFrom h e o p s
 
-  pub read-refused : (k : ℕ) → m ≡ answers.Refused k
-      → ReceiveGives (receives (heldWith b names counts) bytes (readOf (h .n) bytes)) (takings.Refused k) b names counts
+  pub read-refused : (k : ℕ) → m ≡ answers.Refused k → ReceiveGives (receives (heldWith b names counts) bytes) (takings.Refused k) b names counts
   read-refused k r =
-      receive-by b names counts k (receives (heldWith b names counts) bytes (readOf (h .n) bytes)) (ap (receives (heldWith b names counts) bytes) (read-as-refused (h .n) bytes m k q r))
+      receive-by b names counts k (receives (heldWith b names counts) bytes)
+      (judged-refused (refuse (heldWith b names counts) []) (taken (fileMessage (heldWith b names counts) bytes (meaningIn bytes))) (messageCauses (h .n) (beatOf b) bytes) k
+      (message-refused (h .n) (beatOf b) bytes k (read-as-refused (h .n) bytes m k q r)))
+
+  -- read as c: judged by its window
+  read-as : (c : Meaning) → readOf (h .n) bytes ≡ means c → receives (heldWith b names counts) bytes ≡ receivesAs (heldWith b names counts) bytes c
+  read-as c r = message-read (h .n) (beatOf b) bytes (refuse (heldWith b names counts) []) (λ x. taken (fileMessage (heldWith b names counts) bytes x)) c r
 
   module _ (head : message.Head) (x : ReceivedHead) (ns cs : List ℕ) where
     pub read-log : (e′ o′ : List ℕ) → m ≡ answers.Log head → LogTaken h e o names counts bytes head x e′ o′ ns cs
-        → ReceiveGives (receives (heldWith b names counts) bytes (readOf (h .n) bytes)) (x .answer) (benchFrom (x .head) e′ o′ p s) ns cs
-    read-log e′ o′ r f = rw (read-as-log (h .n) bytes m head q r) (f .whole p s)
+        → ReceiveGives (receives (heldWith b names counts) bytes) (x .answer) (benchFrom (x .head) e′ o′ p s) ns cs
+    read-log e′ o′ r f = rw (read-as (logMessage (contentOf bytes head)) (read-as-log (h .n) bytes m head q r)) (f .whole p s)
 
     pub read-proposal : (p′ s′ : List ℕ) (priority : ℕ) → m ≡ answers.Proposal head priority → ProposalTaken h p s names counts bytes head priority x p′ s′ ns cs
-        → ReceiveGives (receives (heldWith b names counts) bytes (readOf (h .n) bytes)) (x .answer) (benchFrom (x .head) e o p′ s′) ns cs
-    read-proposal p′ s′ priority r f = rw (read-as-proposal (h .n) bytes m head priority q r) (f .whole e o)
+        → ReceiveGives (receives (heldWith b names counts) bytes) (x .answer) (benchFrom (x .head) e o p′ s′) ns cs
+    read-proposal p′ s′ priority r f =
+        rw (read-as (proposalMessage (contentOf bytes head) priority) (read-as-proposal (h .n) bytes m head priority q r)) (f .whole e o)

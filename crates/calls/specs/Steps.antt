@@ -5,12 +5,13 @@ use lib.Dec.{ltb}
 use lib.ListN.{length}
 use Rattle.message.specs.Limits.{mostBlocks, lastView}
 use Rattle.message.specs.Choice.{pick}
+use Rattle.message.specs.Causes.{judgedBy}
 use Rattle.agreement.specs.Limits.{mostSenders}
 use Rattle.agreement.specs.Record.{Agreement, isSender, one, two}
 use Rattle.agreement.specs.Grades.{snapshotFor, logOf}
 use Rattle.agreement.specs.Tally.{supportersOf}
 use Rattle.agreement.specs.declared.Grade.{Grade}
-use Rattle.message.specs.Message.{Meaning, logMessage, proposalMessage, means, contentOf}
+use Rattle.message.specs.Message.{Meaning, logMessage, proposalMessage, meaningIn, contentOf}
 use Rattle.message.specs.declared.Head as message
 use Rattle.agreement.specs.Sets.{count, member}
 use Rattle.agreement.specs.declared.Marks.{Marks}
@@ -19,13 +20,14 @@ use mathlib.Core.Option.{Option, some, none}
 use mathlib.Core.Path.{_≡_}
 use Rattle.message.specs.Logs.{Block, Log}
 use Rattle.message.specs.Store.{logAt, logFrom, proposalFrom}
-use Rattle.bench.specs.Record.{Bench, benchFrom, anyPlace, namesBeyond}
+use Rattle.bench.specs.Record.{Bench, benchFrom, beatOf, anyPlace, namesBeyond}
 use Rattle.bench.specs.Calendar.{voting, deciding}
 use Rattle.bench.specs.Layout.{shortLists, mostBytes}
-use Rattle.bench.specs.Calls.{acted, State, Step}
+use Rattle.bench.specs.Calls.{acted, State, Step, openTo}
+use Rattle.bench.specs.Causes.{messageCauses}
 use Rattle.bench.specs.Acts.{outAfter}
 use Rattle.bench.specs.Tested.{Before}
-use Rattle.bench.specs.ByRecord.{fileLog, fileProposal, taken, receives, usedOf, seenOf, withMade, settled, snappedBy}
+use Rattle.bench.specs.ByRecord.{refuse, fileLog, fileProposal, fileMessage, taken, usedOf, seenOf, withMade, settled, snappedBy}
 use Rattle.bench.specs.Answers.{lentAs, heldWith, ReceiveGives, ActGives}
 use Rattle.bench.specs.declared.Head.{Head}
 use Rattle.bench.specs.declared.ReceivedHead.{ReceivedHead}
@@ -66,15 +68,24 @@ pub record ProposalFiled (h : Head) (proposed priorities names counts bytes : Li
       → ReceiveGives (taken (fileProposal (heldWith (benchFrom h even odd proposed priorities) names counts) bytes v i priority))
       (r .answer) (benchFrom (r .head) even odd proposed′ priorities′) names′ counts′
 
+-- Receive in a gathering: judged by the message
+abbrev pub receives : State → List ℕ → Step
+receives s bytes =
+    judgedBy (messageCauses (s .bench .n) (beatOf (s .bench)) bytes) (refuse s []) (taken (fileMessage s bytes (meaningIn bytes)))
+
+-- and of a message that was read as m: by its window alone
+abbrev pub receivesAs : State → List ℕ → Meaning → Step
+receivesAs s bytes m = pick (openTo m (beatOf (s .bench))) (taken (fileMessage s bytes m)) (refuse s [] 21)
+
 pub record LogTaken (h : Head) (even odd names counts bytes : List ℕ) (head : message.Head) (r : ReceivedHead) (even′ odd′ names′ counts′ : List ℕ) : Type 0 where
   pub whole : (proposed priorities : List ℕ)
-      → ReceiveGives (receives (heldWith (benchFrom h even odd proposed priorities) names counts) bytes (means (logMessage (contentOf bytes head))))
+      → ReceiveGives (receivesAs (heldWith (benchFrom h even odd proposed priorities) names counts) bytes (logMessage (contentOf bytes head)))
       (r .answer) (benchFrom (r .head) even′ odd′ proposed priorities) names′ counts′
 
 pub record ProposalTaken (h : Head) (proposed priorities names counts bytes : List ℕ) (head : message.Head) (priority : ℕ) (r : ReceivedHead)
     (proposed′ priorities′ names′ counts′ : List ℕ) : Type 0 where
   pub whole : (even odd : List ℕ)
-      → ReceiveGives (receives (heldWith (benchFrom h even odd proposed priorities) names counts) bytes (means (proposalMessage (contentOf bytes head) priority)))
+      → ReceiveGives (receivesAs (heldWith (benchFrom h even odd proposed priorities) names counts) bytes (proposalMessage (contentOf bytes head) priority))
       (r .answer) (benchFrom (r .head) even odd proposed′ priorities′) names′ counts′
 
 -- ---- a log in the lists

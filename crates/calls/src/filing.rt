@@ -1,15 +1,13 @@
 // Receiving: a message is read, its window looked up, and what it says filed. What does not concern the agreements is not handed to
 // the functions on LOGs, nor what does not concern the proposals to those on PROPOSALs.
 ghost use mathlib.Core.Path.{_≡_};
-ghost use Rattle.message.specs.Message.{readOf};
 ghost use Rattle.agreement.specs.Record.{agreementFrom};
 ghost use Rattle.agreement.specs.Filing.{Files, fileOf, wordOf};
 ghost use Rattle.bench.specs.Layout.{logsPlace};
 ghost use Rattle.bench.specs.Calls.{took};
 ghost use Rattle.bench.specs.Record.{benchFrom, ofView};
-ghost use Rattle.bench.specs.ByRecord.{receives};
 ghost use Rattle.bench.specs.Answers.{heldWith, takenReply, ReceiveGives};
-ghost use Rattle.calls.specs.Steps.{LogFiled, LogTaken, ProposalFiled, ProposalTaken};
+ghost use Rattle.calls.specs.Steps.{receives, LogFiled, LogTaken, ProposalFiled, ProposalTaken};
 use super::calendar::takes_logs;
 use super::calendar::takes_proposals;
 use super::record::beat_of;
@@ -194,7 +192,7 @@ pub(crate) fn take(
     bytes: &[u8],
 ) -> ReceivedHead
     ensures { λ r. ⌜ ReceiveGives (receives (heldWith (benchFrom h (now (even .entry)) (now (odd .entry)) (now (proposed .entry)) (now (priorities .entry))) (now (names .entry)) (now (counts .entry)))
-        (now (bytes .entry)) (readOf (h .n) (now (bytes .entry)))) (r .answer)
+        (now (bytes .entry))) (r .answer)
         (benchFrom (r .head) (now (even .exit)) (now (odd .exit)) (now (proposed .exit)) (now (priorities .exit))) (now (names .exit)) (now (counts .exit)) ⌝ }
 {
     let message = message::reader::read(h.n, bytes);

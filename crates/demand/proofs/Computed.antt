@@ -1,5 +1,6 @@
 -- One name that opens every definition by which a history and the tests of a volume are worked out, for facts that are computed. Assumes nothing.
 use Rattle.message.specs.Choice.{anyOf}
+use Rattle.message.specs.Causes.{firstFailure, judgedBy}
 use Rattle.message.specs.Numbers.{put, numberAt, numbersAt, bytesFor, bytesForEach}
 use Rattle.message.specs.Logs.{isPrefix, sameLog, inStep, namesOf, countsOf}
 use Rattle.message.specs.Message.{messageBytes, bytesOf, meaningIn, malformed, readOf}
@@ -18,7 +19,7 @@ use Rattle.demand.proofs.TypedChecks.{typedb, volumeTypedb}
 
 unfoldable pub computed : Unit {0}
 unfolding
-    anyOf put numberAt numbersAt bytesFor bytesForEach isPrefix sameLog inStep namesOf countsOf messageBytes bytesOf meaningIn malformed readOf
+    anyOf judgedBy firstFailure put numberAt numbersAt bytesFor bytesForEach isPrefix sameLog inStep namesOf countsOf messageBytes bytesOf meaningIn malformed readOf
     weightOf weigh maySupport supports longest wordOn someDiffers keptOf logsFrom gradeNow gradeWith proposalsFrom voteAmong bestOf
     propose vote makes settle refusal wordFor file heardAt gradeAt usedAt madeBy decidedBy accepted acceptedAnswer step answer
     afterFrom after answersFrom answersTo actedAt awake decidedIn standIn stand

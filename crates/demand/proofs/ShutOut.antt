@@ -1,7 +1,8 @@
 -- What demand 3 shuts out: facts of every machine that meets it, without premises. Assumes nothing.
 use Prim.Native.Nat.{ℕ, zero, suc, _^_, _≤_, _<_}
 use native.Mathlib.Omega.{arith}
-use mathlib.Core.Path.{_≡_, sym, ap, subst, _∙_}
+use mathlib.Core.Path.{_≡_, sym, ap, subst, _∙_, refl}
+use mathlib.Core.Bool.{false}
 use mathlib.Core.List.{List, [], _∷_}
 use mathlib.Core.Option.{none}
 use lib.ListN.{length, length-replicate, replicate, getD}
@@ -10,18 +11,21 @@ use Rattle.message.specs.Logs.{Log}
 use Rattle.message.specs.Store.{logAt}
 use Rattle.message.proofs.PartLaws.{zeros-below}
 use Rattle.message.proofs.ListedLaws.{log-step, log-empty}
+use Rattle.message.proofs.CauseLaws.{no-failure}
 use Rattle.agreement.specs.Limits.{mostSenders}
 use Rattle.bench.specs.Terms.{Terms, seatOf}
-use Rattle.bench.specs.Layout.{Lent, leastLent, decidedPlace}
+use Rattle.bench.specs.Layout.{Lent, leastLent, shortLists, outOfRange, decidedPlace}
 use Rattle.bench.specs.Calendar.{lastBeat}
 use Rattle.bench.specs.Calls.{begin, Reply, done, Answer, AllTyped, TypedOpen, State}
 use Rattle.bench.specs.Acts.{Stand}
-use Rattle.bench.specs.History.{fresh, openRefusal, refusal, answer, stand}
+use Rattle.bench.specs.History.{fresh, openRefusal, answer, stand}
 use Rattle.bench.specs.ByRecord.{standing}
-use Rattle.bench.proofs.CallLaws.{begun-reply}
+use Rattle.bench.proofs.CallLaws.{begun-reply, accepts-call}
 use Rattle.bench.proofs.HistoryLaws.{answersTo-from, answersFrom-cons}
 use Rattle.demand.specs.Demand.{Way, Machine, call, OpenedAs, Event, callsIn, runs, answers, Demand3}
 use Rattle.demand.proofs.MachineLaws.{byValues, calls-byValues}
+use Rattle.bench.specs.Causes.{openCauses}
+use Rattle.bench.proofs.Refusals.{open-same}
 use Rattle.demand.proofs.Witness.{four, fiveSix, bench0, keep0, unmarked, stands, typed}
 
 -- ---- by the history
@@ -29,13 +33,14 @@ use Rattle.demand.proofs.Witness.{four, fiveSix, bench0, keep0, unmarke
 -- 7 and 8 do not hold
 opens-unrefused : (T : Terms) (own : ℕ) (l : Lent) → 1 ≤ T .n → T .n ≤ mostSenders → own < T .n → leastLent ≤ length (l .names) → leastLent ≤ length (l .counts)
     → openRefusal (seatOf T own) l ≡ none
-unfolding openRefusal
 opens-unrefused T own l a b c d e =
-    rw (ne-eqb (T .n) 0 (λ z. omega arith), le-ltb mostSenders (T .n) b, lt-leb (T .n) own c, le-ltb (length (l .names)) leastLent d, le-ltb (length (l .counts)) leastLent e)
+    let range : outOfRange (T .n) own ≡ false = rw (ne-eqb (T .n) 0 (λ z. omega arith), le-ltb mostSenders (T .n) b, lt-leb (T .n) own c) in
+    let lists : shortLists l ≡ false = rw (le-ltb (length (l .names)) leastLent d, le-ltb (length (l .counts)) leastLent e) in
+    open-same T own l ∙ no-failure (openCauses (T .n) own l) (range, (lists, tt))
 
 begin-fresh : (T : Terms) (own b : ℕ) → b ≤ lastBeat → answer (seatOf T own) (fresh (seatOf T own)) (begin b) .reply ≡ done
-unfolding refusal
-begin-fresh T own b l = begun-reply (seatOf T own) (fresh (seatOf T own)) b (rw (le-ltb lastBeat b l))
+begin-fresh T own b l =
+    begun-reply (seatOf T own) (fresh (seatOf T own)) b (accepts-call (seatOf T own) (fresh (seatOf T own)) (begin b) (le-ltb lastBeat b l, (refl, tt)))
 
 abbrev firstReply : List Answer → Reply
 firstReply [] = done

@@ -1,20 +1,20 @@
 -- Demand 3 of the bench: its record and lists stay tied to its history, call by call, and so it is faithful. Assumes nothing.
 use Prim.Native.Nat.{ℕ}
-use native.Mathlib.Omega.{arith}
-use mathlib.Core.Bool.{true, false}
-use mathlib.Core.Option.{some, none, Option·none-ne-some, Option·some-injective}
+use mathlib.Core.Bool.{false}
+use mathlib.Core.Option.{some, none}
 use mathlib.Core.Path.{_≡_, refl, sym, ap, subst, _∙_}
-use Rattle.message.proofs.TestLaws.{either}
+use Rattle.message.proofs.CauseLaws.{passes}
 use Rattle.agreement.specs.Sets.{isYes}
 use Rattle.bench.specs.Terms.{Terms, Seat, seatOf}
 use Rattle.bench.specs.Layout.{Lent, outOfRange, shortLists}
 use Rattle.bench.specs.Calls.{Call, begin, receive, act, refused, done, State, Opening, Step, Typed}
+use Rattle.bench.specs.Causes.{openCauses}
 use Rattle.bench.specs.History.{History, fresh, openRefusal}
 use Rattle.bench.specs.Record.{freshBench, Bench}
-use Rattle.bench.specs.ByRecord.{notOpened, openOf}
+use Rattle.bench.specs.ByRecord.{openOf}
 use Rattle.bench.proofs.Ties.{Tie}
 use Rattle.bench.proofs.CallTies.{Agrees, begin-agrees, receive-agrees, open-tie}
-use Rattle.bench.proofs.Refusals.{open-7, open-8, open-done, begin-lent}
+use Rattle.bench.proofs.Refusals.{open-refused, open-done, open-none, open-same, begin-lent}
 use Rattle.bench.proofs.Acting.{act-agrees}
 use Rattle.demand.specs.Demand.{Way, byValue, onLent, call, OpensRightly, OpenedAs, Demand3}
 use Rattle.demand.specs.TheBench.{theBench}
@@ -39,35 +39,19 @@ agrees S w x p c t y = subst (Agrees S x p c) (sym (either-way w x c)) (agrees-b
 -- ---- Open
 
 module _ (T : Terms) (own : ℕ) (l : Lent) where
-  open-causes : {A : Type 0} → (outOfRange (T .n) own ≡ true → A) → (outOfRange (T .n) own ≡ false → shortLists l ≡ true → A) → (outOfRange (T .n) own ≡ false → shortLists l ≡ false → A) → A
-  open-causes f g h = either (outOfRange (T .n) own) f (λ e. either (shortLists l) (g e) (h e))
-
   refuses : (k : ℕ) → openRefusal (seatOf T own) l ≡ some k → openOf (T .n) own l .reply ≡ refused k
-  unfolding openRefusal
-  refuses k r =
-      open-causes
-      (λ e. rw (open-7 (T .n) own l e) (ap refused (Option·some-injective _ _ (rw e at r))))
-      (λ e f. rw (open-8 (T .n) own l e f) (ap refused (Option·some-injective _ _ (rw (e, f) at r))))
-      (λ e f. absurd (Option·none-ne-some _ (rw (e, f) at r)))
+  refuses k r = ap (λ (o : Opening). o .reply) (open-refused (T .n) own l k (sym (open-same T own l) ∙ r))
 
   opens : openRefusal (seatOf T own) l ≡ none → (openOf (T .n) own l .reply ≡ done) × (openOf (T .n) own l .bench .decided ≡ 0) × (isYes (openOf (T .n) own l .bench .parted) ≡ false)
-  unfolding openRefusal
-  opens r =
-      open-causes
-      (λ e. absurd (Option·none-ne-some _ (sym (rw e at r))))
-      (λ e f. absurd (Option·none-ne-some _ (sym (rw (e, f) at r))))
-      (λ e f. rw (open-done (T .n) own l e f) (refl, refl, refl))
+  opens r = rw (open-done (T .n) own l (sym (open-same T own l) ∙ r)) (refl, refl, refl)
 
   -- a bench that Open gave is fresh, and 7 and 8 do not hold
   given-fresh : (b : Bench) → openOf (T .n) own l ≡ record { reply = done; bench = b }
       → (outOfRange (T .n) own ≡ false) × (shortLists l ≡ false) × (freshBench (T .n) own ≡ b)
   given-fresh b g =
-      let no : (k : ℕ) → openOf (T .n) own l ≡ notOpened k → ⊥ = λ k e.
-      let d : refused k ≡ done = ap (λ (o : Opening). o .reply) (sym e ∙ g) in let z : _≡_ {A = ℕ} 0 1 = cc in absurd (omega arith) in
-      open-causes
-      (λ e. absurd (no 7 (open-7 (T .n) own l e)))
-      (λ e f. absurd (no 8 (open-8 (T .n) own l e f)))
-      (λ e f. (e, f, ap (λ (o : Opening). o .bench) (sym (open-done (T .n) own l e f) ∙ g)))
+      let none-fails = open-none (T .n) own l (ap (λ (o : Opening). o .reply) g) in
+      let (range, (lists, end)) = passes (openCauses (T .n) own l) none-fails in
+      (range, lists, ap (λ (o : Opening). o .bench) (sym (open-done (T .n) own l none-fails) ∙ g))
 
 opens-rightly : OpensRightly theBench
 opens-rightly = record { refuses = λ T own l k t e. refuses T own l k e; opens = λ T own l t e. opens T own l e }

@@ -47,13 +47,13 @@ pub read-written : (n : ℕ) (m : Meaning) → WritableMeaning n m → readOf n 
 unfolding bytesOf
 read-written n (logMessage m) w =
     let s = messageBytes m logKind 0 in
-    accepts n s (of-form (form-written n m logKind 0 w (omega arith) (inl (refl, refl))))
+    accepts n s (of-form n s (form-written n m logKind 0 w (omega arith) (inl (refl, refl))))
     ∙ ap means (meaning-log s (kind-written m logKind 0) ∙ ap logMessage (content-written n m logKind 0 w))
 read-written n (proposalMessage m priority) w =
     let s = messageBytes m proposalKind priority in
     let c = content-written n m proposalKind priority (w .0) in
     let p = priority-written m proposalKind priority (w .1) in
-    accepts n s (of-form (form-written n m proposalKind priority (w .0) (w .1) (inr refl)))
+    accepts n s (of-form n s (form-written n m proposalKind priority (w .0) (w .1) (inr refl)))
     ∙ ap means (meaning-proposal s (kind-written m proposalKind priority) ∙ (λ i. proposalMessage (c i) (p i)))
 
 -- ---- what is read is the one writing of its meaning
@@ -93,7 +93,7 @@ bytes-meaning s (inr k) = ap bytesOf (meaning-proposal s k) ∙ (λ i. messageBy
 pub written-read : (n : ℕ) (s : List ℕ) (m : Meaning) → AllBelow 256 s → readOf n s ≡ means m → bytesOf m ≡ s
 written-read n s m b e =
     let a = accepted n s m e in
-    let f = form (a .0) in
+    let f = form n s (a .0) in
     ap bytesOf (sym (a .1)) ∙ bytes-meaning s (f .kind) ∙ rewritten s b (f .sized) (f .three)
 
 -- Two accepted messages of one meaning are the same bytes.
@@ -117,7 +117,7 @@ writable-in {n} {s} b f =
 pub read-writable : (n : ℕ) (s : List ℕ) (m : Meaning) → AllBelow 256 s → readOf n s ≡ means m → WritableMeaning n m
 read-writable n s m b e =
     let a = accepted n s m e in
-    let f = form (a .0) in
+    let f = form n s (a .0) in
     let w = writable-in b f in
     subst (WritableMeaning n) (a .1)
     (elim (f .kind) [

@@ -4,6 +4,7 @@ use mathlib.Core.Path.{_≡_, refl}
 use mathlib.Core.List.{List, [], _∷_, _++_, map}
 use lib.ListN.{replicate}
 use Rattle.message.specs.Choice.{anyOf}
+use Rattle.message.specs.Causes.{firstFailure, judgedBy}
 use Rattle.message.specs.Numbers.{numberAt, numbersAt}
 use Rattle.message.specs.Logs.{Block, Log, inStep}
 use Rattle.message.specs.Message.{Content, logMessage, proposalMessage, meaningIn, malformed, Reading, refused, means, readOf}
@@ -71,5 +72,5 @@ rows =
 
 -- each row reads as it says
 pub rows-read : map (λ (r : Row). readOf (r .benches) (r .bytes)) rows ≡ map (λ (r : Row). r .reading) rows
-unfolding readOf meaningIn malformed anyOf numberAt numbersAt inStep
+unfolding judgedBy firstFailure readOf meaningIn malformed anyOf numberAt numbersAt inStep
 rows-read = refl

@@ -42,7 +42,7 @@ matches-outside s names counts a x e = either (holdsLog s) (λ t. rw (t, e)) (λ
 -- an accepted message holds its log
 pub holds-accepted : (n : ℕ) (s : List ℕ) (m : Meaning) → readOf n s ≡ means m → holdsLog s ≡ true
 holds-accepted n s m e =
-    let f = form (accepted n s m e .0) in
+    let f = form n s (accepted n s m e .0) in
     let z = f .sized in
     rw (le-leb (countIn s) mostBlocks (f .few), le-leb (headLength + blockWidth * countIn s) (length s) (omega arith))
 

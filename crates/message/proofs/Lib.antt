@@ -1,6 +1,7 @@
 -- Laws of the definitions in specs/, and the theorems. The layers above cite these, and not the definitions' text.
 -- Tests, logs, and numbers in lists:
 pub mod TestLaws
+pub mod CauseLaws
 pub mod LogLaws
 pub mod PartLaws
 pub mod NumberLaws

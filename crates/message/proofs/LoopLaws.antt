@@ -8,7 +8,7 @@ use mathlib.Core.Bool.{Bool, true, false, _&&_, _||_}
 use lib.Dec.{leb, eqb}
 use native.Mathlib.Nat.{mul-suc}
 use lib.ListN.{length, getD, set, length-set}
-use borrow.Author.Tests.{le-leb, lt-leb, leb-true, leb-false, eq-eqb, ne-eqb, eqb-true, eqb-false}
+use borrow.Author.Tests.{le-leb, lt-leb, leb-true, leb-false, ne-eqb, eqb-true, eqb-false}
 use lib.Bits.{bitOr, bitXor, or-zero-l, or-add-and, xor-self, xor-add-and, and-le-l, and-le-r}
 use lib.Seq.{getD-set-other}
 use Rattle.message.specs.Choice.{anyOf}

@@ -68,7 +68,7 @@ pub record HeadWithin (n : ℕ) (s : List ℕ) (h : Head) : Type 0 where
 within-of : (n : ℕ) (s : List ℕ) (h : Head) (m : Meaning) → readOf n s ≡ means m → said m ≡ contentOf s h → HeadWithin n s h
 within-of n s h m e c =
     let a = accepted n s m e in
-    let f = form (a .0) in
+    let f = form n s (a .0) in
     let q : headIn s ≡ h = content-head s (headIn s) h (sym (said-in s) ∙ ap said (a .1) ∙ c) in
     subst (HeadWithin n s) q (record { few = f .few; sized = f .sized; exact = refl; below = f .sender; early = f .view })
 

@@ -11,11 +11,11 @@ use lib.ListN.{length, getD}
 use Rattle.message.specs.Limits.{mostBlocks, headLength, nameWidth, countWidth, blockWidth}
 use Rattle.message.specs.Choice.{pick}
 use Rattle.message.specs.Numbers.{part, put, numberAt, numbersAt}
-use Rattle.message.specs.Logs.{Block, Log, isPrefix, sameLog, sameBlock, sharedLength, inStep, namesOf, countsOf}
+use Rattle.message.specs.Logs.{Log, isPrefix, sameLog, sameBlock, sharedLength, inStep, namesOf, countsOf}
 use Rattle.message.specs.Store.{blockAt, logAt, within, holdsLog, prefixAt, sharedAt, matchesAt, Stores, storeOf, fileOf, copyOf}
 use Rattle.message.specs.Message.{countIn, namesIn, countsIn, blocksIn, logIn}
 use Rattle.message.specs.Asks.{TwoLogs, BytesAndLog, alike}
-use Rattle.message.proofs.TestLaws.{either, and-on, and-off}
+use Rattle.message.proofs.TestLaws.{either}
 use Rattle.message.proofs.LogLaws.{isPrefix-iff, sameLog-iff, prefix-refl, prefix-length, shared-most, shared-covers}
 use Rattle.message.proofs.ListedLaws.{length-at, names-at, counts-at, log-step, log-empty, within-of}
 use Rattle.message.proofs.Acceptance.{names-in, counts-in, length-blocks}

@@ -1,13 +1,14 @@
 -- The message: its meaning, its one writing, and what is read from bytes (document 01, "The message" and refusals 1 to 6 of "From the input").
 -- Assumes nothing.
 use Prim.Native.Nat.{ℕ, _+_, _*_, _^_, _<_, _≤_}
-use mathlib.Core.List.{List, _∷_, _++_}
+use mathlib.Core.List.{List, [], _∷_, _++_}
 use mathlib.Core.Bool.{Bool, false, not, _&&_, _||_}
 use mathlib.Core.Path.{_≡_}
 use lib.Dec.{eqb, leb, ltb}
 use lib.ListN.{length, getD}
 use Rattle.message.specs.Limits.{mostBlocks, lastView, headLength, nameWidth, countWidth, blockWidth}
 use Rattle.message.specs.Choice.{pick, anyOf}
+use Rattle.message.specs.Causes.{Cause, by, judgedBy}
 use Rattle.message.specs.Numbers.{AllBelow, numberAt, numbersAt, bytesFor, bytesForEach}
 use Rattle.message.specs.Logs.{Log, inStep, namesOf, countsOf}
 use Rattle.message.specs.declared.Head.{Head}
@@ -140,16 +141,19 @@ pub data Reading : Type 0 where
   refused : ℕ → Reading
   means : Meaning → Reading
 
--- "First failure is given": 1 to 6 in their order.
+-- 1 to 6 in their order
+abbrev pub readCauses : ℕ → List ℕ → List Cause
+readCauses n s =
+    by 1 (tooShort s)
+    ∷ by 2 (missized s)
+    ∷ by 3 (malformed s)
+    ∷ by 4 (unknownSender n s)
+    ∷ by 5 (pastLastView s)
+    ∷ by 6 (zeroNamed s)
+    ∷ []
+
 unfoldable pub readOf : ℕ → List ℕ → Reading
-readOf n s =
-    pick (tooShort s) (refused 1)
-    (pick (missized s) (refused 2)
-    (pick (malformed s) (refused 3)
-    (pick (unknownSender n s) (refused 4)
-    (pick (pastLastView s) (refused 5)
-    (pick (zeroNamed s) (refused 6)
-    (means (meaningIn s)))))))
+readOf n s = judgedBy (readCauses n s) refused (means (meaningIn s))
 
 -- ---- the reader's answer: what each case of the enum says of the bytes that were read
 

@@ -13,12 +13,12 @@ use Rattle.message.proofs.PartLaws.{length-put}
 use Rattle.message.proofs.Acceptance.{length-blocks}
 use Rattle.message.proofs.TestLaws.{either}
 use Rattle.agreement.specs.Sets.{isYes}
-use Rattle.bench.specs.Layout.{mostBytes, Lent, shortLists}
+use Rattle.bench.specs.Layout.{mostBytes, Lent}
 use Rattle.bench.specs.Calls.{Call, begin, receive, act, refused, done, State, Opening, Step}
-use Rattle.bench.specs.ByRecord.{openOf, beginOf, receiveOf, actedOf, actOf}
+use Rattle.bench.specs.ByRecord.{openOf, beginOf, receiveOf, actOf}
 use Rattle.bench.specs.Answers.{heldWith, startReply, takenReply, madeReply, OpenGives, BeginGives, ReceiveGives, ActGives}
 use Rattle.calls.specs.Steps.{Leaves}
-use Rattle.bench.specs.Record.{Bench, idle, beyond}
+use Rattle.bench.specs.Record.{Bench}
 use Rattle.bench.specs.declared.Start.{Start}
 use Rattle.bench.specs.declared.Start.the-variants as starts
 use Rattle.bench.specs.declared.Taken.{Taken}
@@ -26,6 +26,7 @@ use Rattle.bench.specs.declared.Taken.the-variants as takings
 use Rattle.bench.specs.declared.Made.{Made}
 use Rattle.bench.specs.declared.Made.the-variants as makings
 use Rattle.bench.proofs.Replies.{start-done, start-refused, taken-first, taken-second, taken-known, taken-refused, made-nothing, made-log, made-proposal, made-refused}
+use Rattle.bench.proofs.Buffer.{same-reply, same-held}
 use Rattle.run.specs.declared.Answered.{Answered}
 use Rattle.run.specs.declared.Answered.the-variants as answers
 use Rattle.run.specs.declared.Offer.{Offer}
@@ -121,25 +122,6 @@ module _ (s : List ℕ) (i a : ℕ) (x : State) (b : Bench) (ns cs : List ℕ) w
   pub act-gives : (r : Answered) → (kindAt s i ≡ beginKind → ⊥) → (kindAt s i ≡ receiveKind → ⊥)
       → EventGives (act (offeredAt s a) (priorityAt s a) freshBuffer) x r b ns cs → EventGives (callAt s i a) x r b ns cs
   act-gives r u v g = rw (call-act s i a u v) g
-
--- What the buffer holds shows nowhere: neither in what is made nor in what is held.
-pub same-reply : (x : State) (block : Block) (priority : ℕ) (out o : List ℕ) → ltb (length out) mostBytes ≡ ltb (length o) mostBytes
-    → actOf x block priority out .answer .reply ≡ actOf x block priority o .answer .reply
-unfolding actOf actedOf
-same-reply x block priority out o l =
-    either (beyond (x .bench)) (λ e. rw e) (λ e.
-    either (shortLists (x .lent)) (λ f. rw (e, f)) (λ f.
-    either (ltb (length out) mostBytes) (λ g. rw (e, f, ← l, g)) (λ g.
-    either (idle (x .bench)) (λ h. rw (e, f, ← l, g, h)) (λ h. rw (e, f, ← l, g, h)))))
-
-same-held : (x : State) (block : Block) (priority : ℕ) (out o : List ℕ) → ltb (length out) mostBytes ≡ ltb (length o) mostBytes
-    → actOf x block priority out .held ≡ actOf x block priority o .held
-unfolding actOf actedOf
-same-held x block priority out o l =
-    either (beyond (x .bench)) (λ e. rw e) (λ e.
-    either (shortLists (x .lent)) (λ f. rw (e, f)) (λ f.
-    either (ltb (length out) mostBytes) (λ g. rw (e, f, ← l, g)) (λ g.
-    either (idle (x .bench)) (λ h. rw (e, f, ← l, g, h)) (λ h. rw (e, f, ← l, g, h)))))
 
 -- an act, whatever its body
 pub acted-gives : (s : List ℕ) (a : ℕ) (x : State) (b : Bench) (ns cs : List ℕ) (r : Made) (o : Offer) (l out : List ℕ) → o ≡ offerAt s a → length l ≡ mostBytes

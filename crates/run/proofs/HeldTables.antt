@@ -6,9 +6,10 @@ use mathlib.Core.Option.{Option, some, none}
 use mathlib.Core.Path.{_≡_, refl}
 use lib.ListN.{replicate}
 use Rattle.message.specs.Choice as choice
+use Rattle.message.specs.Causes.{firstFailure, judgedBy}
 use Rattle.message.specs.Numbers.{part, put, numberAt, numberIn, numbersAt, bytesFor, bytesForEach}
 use Rattle.message.specs.Logs.{Log, isPrefix, sameLog, inStep, namesOf, countsOf}
-use Rattle.message.specs.Message.{Meaning, logMessage, proposalMessage, messageBytes, bytesOf, malformed, readOf, meaningIn}
+use Rattle.message.specs.Message.{Meaning, logMessage, proposalMessage, messageBytes, bytesOf, malformed, meaningIn}
 use Rattle.message.specs.Store.{logAt}
 use Rattle.agreement.specs.Sets.{weigh, member, adding, removing}
 use Rattle.agreement.specs.Reading as reading
@@ -47,7 +48,7 @@ vote-of v = some (logMessage (record { sender = 0; view = v; log = found }))
 pub sample-made : map (λ (k : ℕ). madeOf sampleRoll k freshBuffer) (1 ∷ 3 ∷ 5 ∷ 11 ∷ 13 ∷ 10 ∷ 14 ∷ []) ≡ proposal ∷ vote-of 0 ∷ none ∷ vote-of 1 ∷ none ∷ none ∷ none ∷ []
 unfolding
     madeOf madeOn noAct heldAfter bodyFrom misshapen misfits wrongMark rightBody callAt callsFrom numberIn openOf
-    beginOf receiveOf readOf malformed meaningIn choice.anyOf actOf actedOf changed snappedBy settled usedOf fileMessage keptAgreement keptProposals agreementOf
+    beginOf receiveOf judgedBy firstFailure malformed meaningIn choice.anyOf actOf actedOf changed snappedBy settled usedOf fileMessage keptAgreement keptProposals agreementOf
     proposalsOf withAgreement anyPlace beyondAgreement beyondProposals beyond propose vote makes voteAmong keptProposal fileProposalOf bestOf gradeAmong
     fileOf overlong maySupport supports hasGrade under prefixes candidates reading.longer longestOf longest weigh member adding removing logAt messageBytes
     bytesOf part put numberAt numbersAt bytesFor bytesForEach isPrefix sameLog inStep namesOf countsOf
@@ -74,7 +75,7 @@ reading-then = 1 ∷ 0 ∷ 1 ∷ 1 ∷ 1 ∷ []
 pub sample-page : Shows (heldAt sampleRoll freshLists 13) (replicate 337 0) (slot 0 1 alone ++ (slot 1 0 nobody ++ reading-then))
 unfolding
     heldAfter callAt callsFrom numberIn openOf
-    beginOf receiveOf readOf malformed meaningIn choice.anyOf actOf actedOf changed snappedBy settled usedOf fileMessage keptAgreement keptProposals agreementOf
+    beginOf receiveOf judgedBy firstFailure malformed meaningIn choice.anyOf actOf actedOf changed snappedBy settled usedOf fileMessage keptAgreement keptProposals agreementOf
     proposalsOf withAgreement anyPlace beyondAgreement beyondProposals beyond propose vote makes voteAmong keptProposal fileProposalOf bestOf gradeAmong
     fileOf overlong maySupport supports hasGrade under prefixes candidates reading.longer longestOf longest weigh member adding removing logAt messageBytes
     bytesOf part put numberAt numbersAt bytesFor bytesForEach isPrefix sameLog inStep namesOf countsOf

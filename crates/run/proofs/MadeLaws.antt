@@ -11,19 +11,19 @@ use lib.ListN.{length, drop, length-append}
 use Rattle.message.specs.Choice.{pick}
 use Rattle.message.specs.Logs.{Block}
 use Rattle.message.specs.Message.{Meaning, logMessage, proposalMessage, bytesOf, priorityIn}
-use Rattle.message.proofs.TestLaws.{either, or-false, or-true}
+use Rattle.message.proofs.TestLaws.{or-false, or-true}
 use Rattle.message.proofs.Acceptance.{length-blocks}
 use Rattle.message.proofs.WrittenFields.{length-message}
-use Rattle.bench.specs.Layout.{mostBytes, Lent, shortLists}
+use Rattle.bench.specs.Layout.{mostBytes, Lent}
 use Rattle.bench.specs.Calls.{Reply, refused, done, took, acted, State}
 use Rattle.bench.specs.Acts.{outAfter}
-use Rattle.bench.specs.Record.{idle, beyond, Bench}
-use Rattle.bench.specs.ByRecord.{actedOf, actOf}
+use Rattle.bench.specs.Record.{Bench}
+use Rattle.bench.specs.ByRecord.{actOf}
 use Rattle.bench.specs.Answers.{heldWith, contentMade, madeReply, ActGives}
 use Rattle.calls.specs.Steps.{Leaves}
 use Rattle.bench.specs.declared.Made.{Made}
 use Rattle.bench.specs.declared.Made.the-variants as makings
-use Rattle.bench.proofs.Buffer.{madeIn, act-out, out-made}
+use Rattle.bench.proofs.Buffer.{madeIn, act-out, out-made, same-reply}
 use Rattle.bench.proofs.Replies.{made-nothing, made-log, made-proposal, made-refused}
 use Rattle.run.specs.declared.Offer.{Offer}
 use Rattle.run.specs.Roll.{eventsOf, kindAt, actKind, misshapen, freshBuffer, offeredAt, priorityAt, callAt}
@@ -33,7 +33,6 @@ use Rattle.run.specs.Held.{heldAfter, firstCalls, bodyPlace, openingOf, 
 use Rattle.run.specs.MadeBytes.{madeBy, noAct, actAfter, madeOn, madeOf, madeLength, GivesMade}
 use Rattle.run.proofs.HeldLaws.{leaves-state, silent}
 use Rattle.run.proofs.RollForm.{shaped}
-use Rattle.run.proofs.EventLaws.{same-reply}
 
 -- ---- which events are no Act
 

@@ -4,17 +4,20 @@ use Prim.Native.Nat.{ℕ}
 use Prim.Native.String.{String}
 use mathlib.Core.Bool.{Bool, true, false}
 use mathlib.Core.List.{List, [], _∷_, _++_, map}
+use mathlib.Core.Logic.{inl}
 use mathlib.Core.Option.{some, none}
 use mathlib.Core.Path.{_≡_, refl}
 use lib.Dec.{ltb}
 use lib.ListN.{length}
 use Rattle.message.specs.Choice as choice
 use Rattle.message.specs.Choice.{pick}
+use Rattle.message.specs.Causes.{firstFailure, judgedBy}
 use Rattle.message.specs.Numbers.{part, put, numberAt, numberIn, numbersAt, bytesFor, bytesForEach}
 use Rattle.message.specs.Logs.{Log, isPrefix, sameLog, inStep, namesOf, countsOf}
-use Rattle.message.specs.Message.{logMessage, proposalMessage, messageBytes, bytesOf, malformed, readOf, meaningIn}
+use Rattle.message.specs.Message.{logMessage, proposalMessage, messageBytes, bytesOf, malformed, meaningIn}
 use Rattle.message.specs.Store.{logAt}
 use Rattle.message.proofs.TestLaws.{or-true}
+use Rattle.message.proofs.CauseLaws.{first-failure}
 use Rattle.agreement.specs.Sets.{weigh, member, adding, removing}
 use Rattle.agreement.specs.Reading as reading
 use Rattle.agreement.specs.Reading.{maySupport, supports, hasGrade, under, prefixes, candidates, longestOf, longest}
@@ -29,7 +32,8 @@ use Rattle.bench.specs.Calls.{Call, begin, receive, act, Reply, refused, done, 
 use Rattle.bench.specs.Record.{agreementOf, proposalsOf, withAgreement, anyPlace, beyondAgreement, beyondProposals, beyond}
 use Rattle.run.specs.Texts.{ascii, digits}
 use Rattle.bench.specs.Layout.{outOfRange}
-use Rattle.bench.proofs.Refusals.{open-7}
+use Rattle.bench.specs.Causes.{openCauses}
+use Rattle.bench.proofs.Refusals.{open-refused}
 use Rattle.run.specs.Roll.{mostRoll, sizesLength, benchesOf, ownOf, rightBody, wrongMark, misfits, misshapen, callAt, callsFrom}
 use Rattle.run.specs.RollText.{noRollText, freshLists, madeText, replyText, lineFor, linesOf, firstLine, openedText, textOf}
 use Rattle.bench.specs.ByRecord.{openOf, beginOf, keptAgreement, keptProposals, receiveOf, actOf, actedOf, usedOf, settled, snappedBy, changed, fileMessage}
@@ -100,7 +104,7 @@ pick-alike false x = refl
 
 pub refused-no-roll : (s : List ℕ) → outOfRange (benchesOf s) (ownOf s) ≡ true → textOf s ≡ noRollText
 unfolding textOf openedText
-refused-no-roll s e = rw (open-7 (benchesOf s) (ownOf s) freshLists e) (pick-alike (misshapen s) noRollText)
+refused-no-roll s e = rw (open-refused (benchesOf s) (ownOf s) freshLists 7 (first-failure (openCauses (benchesOf s) (ownOf s) freshLists) 7 (inl (e, refl)))) (pick-alike (misshapen s) noRollText)
 
 -- ---- what a line says
 
@@ -173,7 +177,7 @@ pub sample : textOf sampleRoll
     ≡ ascii "bench 0 of 1\nbegin 0 ok\nact proposal 1 0\nbegin 1 ok\nact log 1 0\nbegin 2 ok\nact none 0 0\nbegin 3 ok\nact none 0 0\nbegin 4 ok\nact none 0 0\nbegin 5 ok\nact log 1 0\nbegin 6 ok\nact none 0 1\n"
 unfolding
     textOf openedText firstLine linesOf lineFor replyText madeText digits misshapen misfits wrongMark rightBody callAt callsFrom numberIn openOf
-    beginOf receiveOf readOf malformed meaningIn choice.anyOf actOf actedOf changed snappedBy settled usedOf fileMessage keptAgreement keptProposals agreementOf
+    beginOf receiveOf judgedBy firstFailure malformed meaningIn choice.anyOf actOf actedOf changed snappedBy settled usedOf fileMessage keptAgreement keptProposals agreementOf
     proposalsOf withAgreement anyPlace beyondAgreement beyondProposals beyond propose vote makes voteAmong keptProposal fileProposalOf bestOf gradeAmong
     fileOf overlong maySupport supports hasGrade under prefixes candidates reading.longer longestOf longest weigh member adding removing logAt messageBytes
     bytesOf part put numberAt numbersAt bytesFor bytesForEach isPrefix sameLog inStep namesOf countsOf

@@ -1,6 +1,5 @@
 use Rattle.agreement.proofs.MaskLaws.{member-past}
 use mathlib.Core.Path.{sym}
-use native.Mathlib.Omega.{arith}
 use borrow.Author.Needs.{needs}
 use Rattle.agreement.proofs.sets.is_member.Statement.{statement}
 use Rattle.agreement.proofs.sets.is_member.Tie as tie
