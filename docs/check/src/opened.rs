@@ -20,27 +20,10 @@ const TABLES: [&str; 12] = [
     "crates/run/proofs/RollTables.antt",
 ];
 
-/// A file that still opens some, and how many.
-pub type Still = (&'static str, usize);
-
-/// Each opening outside the tables; in a file that still may, only where there are more or fewer than it may.
-pub fn check(tree: &Tree, still: &[Still]) -> Vec<Finding> {
-    let mut wrong = vec![];
-    for (path, text) in tree.files().filter(|(path, _)| is_law(path) && !TABLES.contains(path)) {
-        let found = openings(path, text);
-        match still.iter().find(|(file, _)| *file == path) {
-            Some((_, count)) if found.len() == *count => {}
-            Some((_, count)) if found.len() < *count => {
-                let what = format!("opens {} definitions, and may still open {count}: allow no more", found.len());
-                wrong.push(Finding::new(path, 1, what));
-            }
-            _ => wrong.extend(found),
-        }
-    }
-    let is_there = |path: &str| tree.text(path).is_some();
-    let gone = still.iter().filter(|(path, _)| !is_there(path));
-    wrong.extend(gone.map(|(path, _)| Finding::new(path, 1, "is no file, and needs no allowance")));
-    wrong
+/// Each opening outside the tables.
+pub fn check(tree: &Tree) -> Vec<Finding> {
+    let laws = tree.files().filter(|(path, _)| is_law(path) && !TABLES.contains(path));
+    laws.flat_map(|(path, text)| openings(path, text)).collect()
 }
 
 fn is_law(path: &str) -> bool {

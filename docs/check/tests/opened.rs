@@ -1,26 +1,7 @@
 //! Which definitions of another crate a law opens by their text: on samples, and in the crates as they are.
 use check::finding::told;
-use check::opened::{check, Still};
+use check::opened::check;
 use check::tree::Tree;
-
-/// What is still open, until the laws for it are there: those of crate calls, and of the definitions of refusals.
-const STILL_OPEN: [Still; 15] = [
-    ("crates/bench/proofs/ReadRefusals.antt", 2),
-    ("crates/calls/proofs/ActCases.antt", 12),
-    ("crates/calls/proofs/CallCases.antt", 5),
-    ("crates/calls/proofs/DecidingLaws.antt", 6),
-    ("crates/calls/proofs/FilingCases.antt", 8),
-    ("crates/calls/proofs/LimitCases.antt", 8),
-    ("crates/calls/proofs/MakingLaws.antt", 14),
-    ("crates/calls/proofs/ReadingCases.antt", 4),
-    ("crates/calls/proofs/ReceiveCases.antt", 5),
-    ("crates/calls/proofs/RecordCases.antt", 4),
-    ("crates/calls/proofs/SeeingLaws.antt", 8),
-    ("crates/calls/proofs/WrittenLaws.antt", 5),
-    ("crates/demand/proofs/ShutOut.antt", 2),
-    ("crates/demand/proofs/TheDemand.antt", 2),
-    ("crates/run/proofs/EventLaws.antt", 4),
-];
 
 const GOOD: &str = "\
 -- unfolding readOf
@@ -49,7 +30,7 @@ module _ (n : ℕ) where
 fn said_of(path: &str, old: &str, new: &str) -> String {
     assert!(GOOD.contains(old), "{old}");
     let tree = Tree::of(&[(path, &GOOD.replacen(old, new, 1))]);
-    told(&check(&tree, &[]))
+    told(&check(&tree))
 }
 
 fn said(old: &str, new: &str) -> String {
@@ -97,20 +78,8 @@ fn definitions_and_proofs_of_functions_are_read_and_nothing_else() {
 }
 
 #[test]
-fn what_may_still_be_open_is_counted() {
-    let text = GOOD.replacen("length after", "readOf", 1);
-    let tree = Tree::of(&[("crates/bench/proofs/Laws.antt", &text)]);
-    let with = |count| told(&check(&tree, &[("crates/bench/proofs/Laws.antt", count)]));
-    assert_eq!(with(1), "");
-    assert!(with(0).contains(":13: opens `readOf`"));
-    assert!(with(2).contains("opens 1 definitions, and may still open 2"));
-    let gone = told(&check(&Tree::of(&[]), &[("crates/bench/proofs/Laws.antt", 1)]));
-    assert!(gone.contains("is no file"));
-}
-
-#[test]
 fn the_crates_open_no_definition_of_another() {
     let tree = Tree::of_repository().expect("the repository can be read");
-    let findings = check(&tree, &STILL_OPEN);
+    let findings = check(&tree);
     assert!(findings.is_empty(), "{}", told(&findings));
 }
