@@ -1,3 +1,4 @@
--- What the proof of `gathering::gather` cites: loans for one call, and the three promises put together.
+-- What the proof of `gathering::gather` cites: loans for one call, the end of a function, and the three promises put together.
 pub mod Lending
+pub mod Freeing
 pub mod GatheringLaws

@@ -18,7 +18,7 @@ use ghost.Atoms.{Atoms, sem}
 use contract.Monad.{Fun, fact}
 use contract.Running.{givenOf, tables, tablesOf}
 use types.Kit.{Given, Item, mean, ⋆, ‵, raw, _⊛_, some, given, later, _$_, _∵_, !, qed, by, move, keep, drop, use1, use2, use3, split, join, group, pick, learn, fsplit, fjoin, feqL, suffices, check, show, frame, await, updating, now as at-once, done}
-use types.Run.{look, init, stop, from, load, addr, of-opd, assigns, no-more, land, returns, enter, alloc1, alloc0, params1, pass1, pass0, free0}
+use types.Run.{look, init, stop, from, load, addr, of-opd, assigns, no-more, land, returns, enter, alloc1, alloc0, params1, pass1, pass0}
 use types.Part.{agg}
 use sound.WpLaws.{FmC, fmOf, WpFn-mono}
 use denote.RattleType.{owns}
@@ -47,7 +47,8 @@ use Rattle.bench.specs.declared.Start.{Start}
 use Rattle.bench.specs.declared.Taken.{Taken}
 use Rattle.bench.specs.declared.Made.{Made}
 use Rattle.schedules.specs.declared.gathering.Gathered.{Gathered}
-use Rattle.lent.proofs.LentSteps.{benchVal, arg, lent-on, freed}
+use Rattle.lent.proofs.LentSteps.{benchVal, arg, lent-on}
+use Rattle.schedules.proofs.Freeing.{all-freed}
 use Rattle.schedules.proofs.Lending.{Loan, life, placed, KeptLocal, lends-local, local-back, KeptMut, KeptShr, lends-mut, mut-back, lends-shr, shr-back}
 use Rattle.schedules.proofs.GatheringLaws.{gathered}
 use Rattle.bench.proofs.Bench as T
@@ -552,9 +553,7 @@ module _ {M : Type 1} (𝓤 : URA M) (H : Heap 𝓤) (A : Atoms 𝓤) (W : Given
         move ! (64 ∷ 65 ∷ 62 ∷ 63 ∷ 8 ∷ 61 ∷ 5 ∷ 60 ∷ 2 ∷ 59 ∷ 57 ∷ 58 ∷ 55 ∷ 56 ∷ 53 ∷ 54 ∷ 51 ∷ 52 ∷ 49 ∷ 50 ∷ 0 ∷ 48 ∷ 46 ∷ 47 ∷ 44 ∷ 45 ∷ 42 ∷ 43 ∷ 40 ∷ 41 ∷ 18
         ∷ 39 ∷ 19 ∷ 38 ∷ 16 ∷ 37 ∷ 17 ∷ 36 ∷ 34 ∷ 35 ∷ 14 ∷ 33 ∷ 15 ∷ 32 ∷ 12 ∷ 31 ∷ 13 ∷ 30 ∷ 28 ∷ 29 ∷ 9 ∷ 27 ∷ 10 ∷ 26 ∷ 6 ∷ 25 ∷ 7 ∷ 24 ∷ 3 ∷ 23 ∷ 4 ∷ 22 ∷ 20
         ∷ 21 ∷ []) $
-        freed ! $ freed ! $ freed ! $ freed ! $ freed ! $ freed ! $ freed ! $ freed ! $ freed ! $ freed ! $ freed ! $ freed ! $ freed ! $ freed ! $ freed ! $ freed ! $
-        freed ! $ freed ! $ freed ! $ freed ! $ freed ! $ freed ! $ freed ! $ freed ! $ freed ! $ freed ! $ freed ! $ freed ! $ freed ! $ freed ! $ freed ! $ freed ! $
-        free0 ! $
+        all-freed ! _ (_, (_, (_, (_, (_, (_, (_, (_, (_, (_, (_, (_, (_, (_, (_, (_, (_, (_, (_, (_, (_, (_, (_, (_, (_, (_, (_, (_, (_, (_, (_, (_, tt)))))))))))))))))))))))))))))))) $
         keep ! (0 ∷ 1 ∷ []) $ by ! (exits p₁ p₂ p₃ w₁ w₂ w₃ k₁ k₂ k₃)))))))))))))))))))))))))))))))))))))))))))))
 
 module _ {M : Type 1} (𝓤 : URA M) (H : Heap 𝓤) (A : Atoms 𝓤) (W : Given 𝓤 H A) (at-mem : Memory → SProp 𝓤) (run : Routine → Fun 𝓤) where
