@@ -11,8 +11,9 @@ use Rattle.message.specs.Logs.{sameLog, namesOf, countsOf}
 use Rattle.message.specs.Message.{countIn, logIn}
 use Rattle.message.specs.Store.{holdsLog}
 use Rattle.agreement.specs.Limits.{mostSenders, span, placeOf}
-use Rattle.agreement.specs.Record.{Agreement, isVoter, isEquivocator, filedLog, lacksRoom, withFirst, withSecond}
+use Rattle.agreement.specs.Record.{Agreement, agreementFrom, isVoter, isEquivocator, filedLog, lacksRoom, heardOnce, heardTwice, withFirst, withSecond}
 use Rattle.agreement.specs.declared.Filed.{Filed}
+use Rattle.agreement.specs.declared.Marks.{Marks}
 use Rattle.agreement.specs.declared.Answer.{Answer}
 use Rattle.agreement.specs.declared.Answer.the-variants.{First, Second, Known}
 
@@ -76,3 +77,15 @@ pub record Files (t : Filing) (r : Filed) (lengths names counts : List ℕ) : Ty
   pub lengthList : lengths ≡ t .agreement .lengths
   pub nameList : names ≡ t .names
   pub countList : counts ≡ t .counts
+
+-- The marks after this answer to a LOG of sender i: they follow from it. A number that is no sender's changes nothing.
+abbrev pub markedBy : Marks → Answer → ℕ → Marks
+markedBy m First i = pick (leb mostSenders i) m (heardOnce m i)
+markedBy m Second i = pick (leb mostSenders i) m (heardTwice m i)
+markedBy m Known i = m
+
+-- Answered and left so where V and E are these, whatever view and snapshots.
+pub record LogStored (voters equivocators : ℕ) (lengths names counts : List ℕ) (base : ℕ) (s : List ℕ) (i : ℕ) (a : Answer)
+    (lengths′ names′ counts′ : List ℕ) : Type 0 where
+  pub whole : (m : Marks) → m .voters ≡ voters → m .equivocators ≡ equivocators
+      → Files (fileOf (agreementFrom m lengths) names counts base s i) (record { answer = a; marks = markedBy m a i }) lengths′ names′ counts′

@@ -2,8 +2,9 @@
 use Prim.Native.Nat.{ℕ}
 use mathlib.Core.Bool.{Bool, true, false}
 use mathlib.Core.List.{List}
-use mathlib.Core.Path.{_≡_, sym, ap, subst, _∙_}
-use Rattle.agreement.specs.Filing.{Files, fileOf, wordOf}
+use mathlib.Core.Path.{_≡_, sym, ap, subst, _∙_, refl}
+use Rattle.agreement.specs.Filing.{Files, fileOf, wordOf, markedBy, LogStored}
+use Rattle.agreement.specs.Limits.{span}
 use Rattle.agreement.specs.Record.{Agreement, agreementFrom}
 use Rattle.agreement.specs.Proposals.{Proposals, proposalsFrom, FilesProposal, fileProposalOf}
 use Rattle.agreement.specs.declared.Marks.{Marks}
@@ -12,6 +13,7 @@ use Rattle.agreement.specs.declared.Answer.{Answer}
 use Rattle.agreement.specs.declared.Answer.the-variants as words
 use Rattle.agreement.specs.declared.Filed.{Filed}
 use Rattle.agreement.specs.declared.FiledProposal.{FiledProposal}
+use Rattle.agreement.proofs.FileCases.{filed-by}
 use Rattle.bench.specs.Layout.{isEven, logsPlace, proposalsPlace}
 use Rattle.bench.specs.Calls.{took}
 use Rattle.bench.specs.Record.{Bench, benchFrom, ofView, agreementOf, proposedIn, proposalsOf, withAgreement, withProposals}
@@ -22,7 +24,7 @@ use Rattle.bench.specs.declared.Taken.{Taken}
 use Rattle.bench.specs.declared.Taken.the-variants as takings
 use Rattle.bench.proofs.Replies.{taken-first, taken-second, taken-known}
 use Rattle.bench.proofs.Slots.{withSlots, agreement-even, agreement-odd, proposals-slot, stored-even, stored-odd}
-use Rattle.calls.specs.Steps.{LogFiled, ProposalFiled}
+use Rattle.calls.specs.Steps.{ProposalFiled, EvenFiled, OddFiled}
 
 pub word-first : (a : Answer) → a ≡ words.First → takenReply takings.First ≡ took (wordOf a)
 word-first a e = rw e taken-first
@@ -61,21 +63,27 @@ module _ (r : Bool) (v : ℕ) (q : r ≡ isEven v) (b : Bench) where
 
 -- ---- a LOG
 
--- in a slot, once what it holds of another view is gone
-pub slot-filed : (names counts bytes : List ℕ) (v i base : ℕ) (m : Marks) (ls : List ℕ) (g : Agreement) (f : Filed) (ls′ ns cs : List ℕ) → base ≡ logsPlace v
-    → agreementFrom m ls ≡ ofView g v → Files (fileOf (agreementFrom m ls) names counts base bytes i) f ls′ ns cs
-    → Files (fileOf (ofView g v) names counts (logsPlace v) bytes i) f ls′ ns cs
-slot-filed names counts bytes v i base m ls g f ls′ ns cs at e d =
-    subst (λ (a : Agreement). Files (fileOf a names counts (logsPlace v) bytes i) f ls′ ns cs) e
-    (subst (λ (k : ℕ). Files (fileOf (agreementFrom m ls) names counts k bytes i) f ls′ ns cs) at d)
+-- the place of the logs, by the parity of the view
+place-even : (v : ℕ) → isEven v ≡ true → 0 ≡ logsPlace v
+place-even v t = rw t
 
-module _ (names counts bytes : List ℕ) (v i : ℕ) (f : Filed) (w : Taken) (answered : takenReply w ≡ took (wordOf (f .answer))) (ls′ ns cs : List ℕ) where
-  log-filed : (g : Agreement) (b c : Bench) → ofView g v ≡ agreementOf b v → Files (fileOf (ofView g v) names counts (logsPlace v) bytes i) f ls′ ns cs
-      → ((a : Agreement) → agreementFrom (f .marks) ls′ ≡ a → c ≡ withAgreement b v a)
+place-odd : (v : ℕ) → isEven v ≡ false → span ≡ logsPlace v
+place-odd v t = rw t
+
+-- in a slot, once what it holds of another view is gone
+module _ (names counts bytes : List ℕ) (v i : ℕ) (m k : Marks) (ls : List ℕ) (a : Answer) (w : Taken) (answered : takenReply w ≡ took (wordOf a)) (ls′ ns cs : List ℕ)
+    (marked : k ≡ markedBy m a i) where
+  abbrev f : Filed
+  f = record { answer = a; marks = k }
+
+  log-filed : (g : Agreement) (b c : Bench) (base : ℕ) → base ≡ logsPlace v → agreementFrom m ls ≡ ofView g v → ofView g v ≡ agreementOf b v
+      → LogStored (m .voters) (m .equivocators) ls names counts base bytes i a ls′ ns cs
+      → ((x : Agreement) → agreementFrom k ls′ ≡ x → c ≡ withAgreement b v x)
       → ReceiveGives (taken (fileLog (heldWith b names counts) bytes v i)) w c ns cs
-  log-filed g b c e d kept =
+  log-filed g b c base at e o d kept =
       let x : Files (fileOf (agreementOf b v) names counts (logsPlace v) bytes i) f ls′ ns cs =
-      subst (λ (a : Agreement). Files (fileOf a names counts (logsPlace v) bytes i) f ls′ ns cs) e d in
+      subst (λ (y : Agreement). Files (fileOf y names counts (logsPlace v) bytes i) f ls′ ns cs) (e ∙ o)
+      (subst (λ (p : ℕ). Files (fileOf (agreementFrom m ls) names counts p bytes i) f ls′ ns cs) at (filed-by m k ls names counts base bytes i a ls′ ns cs d marked)) in
       record {
         answered = answered ∙ ap took (x .answered);
         bench = kept _ (λ j. record { marks = x .marks j; lengths = x .lengthList j });
@@ -83,21 +91,29 @@ module _ (names counts bytes : List ℕ) (v i : ℕ) (f : Filed) (w : Taken) (an
         countList = x .countList;
       }
 
-  module _ (h : Head) (e o : List ℕ) (r : Bool) (q : r ≡ isEven v) where
-    pub filed-even : r ≡ true → Files (fileOf (ofView (agreementFrom (h .even) e) v) names counts (logsPlace v) bytes i) f ls′ ns cs
-        → LogFiled h e o names counts bytes v i (record { answer = w; head = evenHead h (f .marks) }) ls′ o ns cs
-    filed-even t d = record {
-      whole = λ p s.
-          let b = benchFrom h e o p s in
-          log-filed (agreementFrom (h .even) e) b (benchFrom (evenHead h (f .marks)) ls′ o p s) (read-even r v q b t) d (keep-even r v q b t (agreementFrom (f .marks) ls′));
+  module _ (h : Head) where
+    pub filed-even : (e : List ℕ) → agreementFrom m ls ≡ ofView (agreementFrom (h .even) e) v
+        → LogStored (m .voters) (m .equivocators) ls names counts 0 bytes i a ls′ ns cs
+        → EvenFiled h e names counts bytes v i (record { answer = w; head = evenHead h k }) ls′ ns cs
+    filed-even e g d = record {
+      whole = λ t o. record {
+        whole = λ p s.
+            let b = benchFrom h e o p s in
+            log-filed (agreementFrom (h .even) e) b (benchFrom (evenHead h k) ls′ o p s) 0 (place-even v t) g (read-even true v (sym t) b refl) d
+            (keep-even true v (sym t) b refl (agreementFrom k ls′));
+      };
     }
 
-    pub filed-odd : r ≡ false → Files (fileOf (ofView (agreementFrom (h .odd) o) v) names counts (logsPlace v) bytes i) f ls′ ns cs
-        → LogFiled h e o names counts bytes v i (record { answer = w; head = oddHead h (f .marks) }) e ls′ ns cs
-    filed-odd t d = record {
-      whole = λ p s.
-          let b = benchFrom h e o p s in
-          log-filed (agreementFrom (h .odd) o) b (benchFrom (oddHead h (f .marks)) e ls′ p s) (read-odd r v q b t) d (keep-odd r v q b t (agreementFrom (f .marks) ls′));
+    pub filed-odd : (o : List ℕ) → agreementFrom m ls ≡ ofView (agreementFrom (h .odd) o) v
+        → LogStored (m .voters) (m .equivocators) ls names counts span bytes i a ls′ ns cs
+        → OddFiled h o names counts bytes v i (record { answer = w; head = oddHead h k }) ls′ ns cs
+    filed-odd o g d = record {
+      whole = λ t e. record {
+        whole = λ p s.
+            let b = benchFrom h e o p s in
+            log-filed (agreementFrom (h .odd) o) b (benchFrom (oddHead h k) e ls′ p s) span (place-odd v t) g (read-odd false v (sym t) b refl) d
+            (keep-odd false v (sym t) b refl (agreementFrom k ls′));
+      };
     }
 
 -- ---- a PROPOSAL

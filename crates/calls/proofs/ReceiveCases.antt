@@ -2,13 +2,14 @@
 use Prim.Native.Nat.{ℕ}
 use mathlib.Core.Bool.{Bool, true, false}
 use mathlib.Core.List.{List, []}
-use mathlib.Core.Path.{_≡_, refl}
+use mathlib.Core.Path.{_≡_, refl, sym, _∙_}
 use Rattle.message.specs.Message.{Meaning, logMessage, proposalMessage, meaningIn, means, readOf, contentOf, readingOf}
 use Rattle.message.specs.declared.Head as message
 use Rattle.message.specs.declared.Message.{Message}
 use Rattle.message.specs.declared.Message.the-variants as answers
 use Rattle.message.proofs.CauseLaws.{judged-refused}
 use Rattle.message.proofs.Readings.{read-as-log, read-as-proposal, read-as-refused}
+use Rattle.bench.specs.Layout.{isEven}
 use Rattle.bench.specs.Calendar.{logWindow, proposalWindow}
 use Rattle.bench.specs.Calls.{Step}
 use Rattle.bench.specs.Record.{Bench, benchFrom, beatOf}
@@ -19,7 +20,7 @@ use Rattle.bench.specs.declared.Taken.the-variants as takings
 use Rattle.bench.specs.declared.ReceivedHead.{ReceivedHead}
 use Rattle.bench.proofs.Replies.{taken-refused}
 use Rattle.bench.proofs.ActLaws.{file-log, file-proposal}
-use Rattle.calls.specs.Steps.{bare, LogFiled, LogTaken, ProposalFiled, ProposalTaken, receives, receivesAs}
+use Rattle.calls.specs.Steps.{bare, LogFiled, LogTaken, ProposalFiled, ProposalTaken, receives, receivesAs, EvenFiled, OddFiled}
 use Rattle.bench.specs.Causes.{messageCauses}
 use Rattle.bench.proofs.Refusals.{message-refused, message-read}
 
@@ -35,9 +36,19 @@ module _ (h : Head) (names counts bytes : List ℕ) (head : message.Head) (beat 
     pub log-shut : r ≡ false → LogTaken h e o names counts bytes head (record { answer = takings.Refused 21; head = h }) e o names counts
     log-shut t = record { whole = λ p s. rw (← now, ← q, t) (record { answered = taken-refused 21; bench = refl; nameList = refl; countList = refl }) }
 
-    pub log-taken : (x : ReceivedHead) (e′ o′ ns cs : List ℕ) → r ≡ true → LogFiled h e o names counts bytes (head .view) (head .sender) x e′ o′ ns cs
+    log-taken : (x : ReceivedHead) (e′ o′ ns cs : List ℕ) → r ≡ true → LogFiled h e o names counts bytes (head .view) (head .sender) x e′ o′ ns cs
         → LogTaken h e o names counts bytes head x e′ o′ ns cs
     log-taken x e′ o′ ns cs t f = record { whole = λ p s. rw (← now, ← q, t, file-log) (f .whole p s) }
+
+    -- by the parity of the view
+    module _ (t : r ≡ true) (y : Bool) (u : y ≡ isEven (head .view)) (x : ReceivedHead) (ns cs : List ℕ) where
+      pub even-taken : (e′ : List ℕ) → y ≡ true → EvenFiled h e names counts bytes (head .view) (head .sender) x e′ ns cs
+          → LogTaken h e o names counts bytes head x e′ o ns cs
+      even-taken e′ z f = log-taken x e′ o ns cs t (f .whole (sym u ∙ z) o)
+
+      pub odd-taken : (o′ : List ℕ) → y ≡ false → OddFiled h o names counts bytes (head .view) (head .sender) x o′ ns cs
+          → LogTaken h e o names counts bytes head x e o′ ns cs
+      odd-taken o′ z f = log-taken x e o′ ns cs t (f .whole (sym u ∙ z) e)
 
   module _ (p s : List ℕ) (priority : ℕ) (q : r ≡ proposalWindow (head .view) beat) where
     pub proposal-shut : r ≡ false → ProposalTaken h p s names counts bytes head priority (record { answer = takings.Refused 21; head = h }) p s names counts

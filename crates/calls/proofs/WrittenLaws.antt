@@ -1,7 +1,7 @@
 -- A made message: it can be written, is filed from the outgoing buffer as its bytes are, and read back from there as it was meant. Assumes nothing.
 use Prim.Native.Nat.{ℕ, _+_, _^_, _≤_, _<_}
 use native.Mathlib.Omega.{arith}
-use mathlib.Core.Bool.{Bool, true}
+use mathlib.Core.Bool.{Bool, true, false}
 use mathlib.Core.List.{List, [], _∷_, _++_}
 use mathlib.Core.Option.{some}
 use mathlib.Core.Path.{_≡_, refl, sym, ap, subst, _∙_}
@@ -20,12 +20,12 @@ use Rattle.message.proofs.ListedLaws.{length-at, names-at, counts-at}
 use Rattle.message.proofs.WrittenFields.{length-message}
 use Rattle.message.proofs.Inside.{room-yes, written-inside, count-made, same-count, same-holds, same-log, content-made, priority-made}
 use Rattle.agreement.proofs.BytesLaws.{same-filed, same-proposal-filed}
-use Rattle.bench.specs.Layout.{logsPlace, proposalsPlace, mostBytes}
+use Rattle.bench.specs.Layout.{isEven, logsPlace, proposalsPlace, mostBytes}
 use Rattle.bench.specs.Calls.{acted, State}
 use Rattle.bench.specs.Record.{agreementOf, proposalsOf, Bench, benchFrom}
 use Rattle.bench.specs.ByRecord.{Outcome, logOutcome, proposalOutcome, fileLog, fileProposal, fileMessage, taken}
 use Rattle.bench.specs.Answers.{lentAs, heldWith, contentMade, madeReply, ReceiveGives, ActGives}
-use Rattle.calls.specs.Steps.{LogFiled, ProposalFiled, Making, madeStep, LogMade, ProposalMade}
+use Rattle.calls.specs.Steps.{LogFiled, EvenFiled, OddFiled, ProposalFiled, Making, madeStep, LogMade, ProposalMade}
 use Rattle.bench.specs.declared.Head.{Head}
 use Rattle.bench.specs.declared.Taken.{Taken}
 use Rattle.bench.specs.declared.Made.{Made}
@@ -132,7 +132,7 @@ module _ (h : Head) (names counts out : List ℕ) (v a k : ℕ) (hn : (i : ℕ) 
   counts-fit = subst (AllBelow (2 ^ 16)) (sym (counts-at names counts a k)) (part-below (2 ^ 16) counts a k (λ i. hc i .fits))
 
   module _ (e d e′ d′ : List ℕ) where
-    pub log-acts : Making names counts out v a k → Writes (writeLogOf out names counts a k (h .own) v) r o → LogFiled h e d names counts o v (h .own) f e′ d′ ns cs
+    log-acts : Making names counts out v a k → Writes (writeLogOf out names counts a k (h .own) v) r o → LogFiled h e d names counts o v (h .own) f e′ d′ ns cs
         → LogMade h e d names counts out v a k (record { answer = makings.Log k; head = f .head }) e′ d′ ns cs o
     log-acts p x y =
         let m : Content = record { sender = h .own; view = v; log = L } in
@@ -141,6 +141,16 @@ module _ (h : Head) (names counts out : List ℕ) (v a k : ℕ) (hn : (i : ℕ) 
         let w = makeable p (logMessage m) (omega arith) refl names-fit counts-fit in
         let z = written-inside (roomFor out names counts a k k) out (logMessage m) r o (made-room p k few) x .1 in
         record { whole = λ q s. made-acts (heldWith (benchFrom h e d q s) names counts) out (logMessage m) w (makings.Log k) o (f .answer) (benchFrom (f .head) e′ d′ q s) ns cs z (log-reply out m k w l) (rw file-log (y .whole q s)) }
+
+  -- by the parity of the view
+  module _ (e d : List ℕ) (p : Making names counts out v a k) (x : Writes (writeLogOf out names counts a k (h .own) v) r o) (y : Bool) (u : y ≡ isEven v) where
+    pub even-acts : (e′ : List ℕ) → y ≡ true → EvenFiled h e names counts o v (h .own) f e′ ns cs
+        → LogMade h e d names counts out v a k (record { answer = makings.Log k; head = f .head }) e′ d ns cs o
+    even-acts e′ t z = log-acts e d e′ d p x (z .whole (sym u ∙ t) d)
+
+    pub odd-acts : (d′ : List ℕ) → y ≡ false → OddFiled h d names counts o v (h .own) f d′ ns cs
+        → LogMade h e d names counts out v a k (record { answer = makings.Log k; head = f .head }) e d′ ns cs o
+    odd-acts d′ t z = log-acts e d e d′ p x (z .whole (sym u ∙ t) e)
 
   module _ (q s q′ s′ : List ℕ) where
     pub proposal-acts : (name count priority : ℕ) → Fits w64 name → Fits w16 count → Fits w64 priority

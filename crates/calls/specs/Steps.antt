@@ -1,6 +1,6 @@
 -- What the inner functions ask and promise: steps on the way to the definitions of bench's ByRecord, which they do not add to. Assumes nothing.
 use Prim.Native.Nat.{ℕ, _≤_}
-use mathlib.Core.Bool.{Bool, false, not, _&&_, _||_}
+use mathlib.Core.Bool.{Bool, true, false, not, _&&_, _||_}
 use lib.Dec.{ltb}
 use lib.ListN.{length}
 use Rattle.message.specs.Limits.{mostBlocks, lastView}
@@ -22,7 +22,7 @@ use Rattle.message.specs.Logs.{Block, Log}
 use Rattle.message.specs.Store.{logAt, logFrom, proposalFrom}
 use Rattle.bench.specs.Record.{Bench, benchFrom, beatOf, anyPlace, namesBeyond}
 use Rattle.bench.specs.Calendar.{voting, deciding}
-use Rattle.bench.specs.Layout.{shortLists, mostBytes}
+use Rattle.bench.specs.Layout.{shortLists, mostBytes, isEven}
 use Rattle.bench.specs.Calls.{acted, State, Step, openTo}
 use Rattle.bench.specs.Causes.{messageCauses}
 use Rattle.bench.specs.Acts.{outAfter}
@@ -61,6 +61,13 @@ pub record LogFiled (h : Head) (even odd names counts bytes : List ℕ) (v i : �
   pub whole : (proposed priorities : List ℕ)
       → ReceiveGives (taken (fileLog (heldWith (benchFrom h even odd proposed priorities) names counts) bytes v i))
       (r .answer) (benchFrom (r .head) even′ odd′ proposed priorities) names′ counts′
+
+-- in the slot of an even view, whatever the other holds; and in that of an odd one
+pub record EvenFiled (h : Head) (even names counts bytes : List ℕ) (v i : ℕ) (r : ReceivedHead) (even′ names′ counts′ : List ℕ) : Type 0 where
+  pub whole : isEven v ≡ true → (odd : List ℕ) → LogFiled h even odd names counts bytes v i r even′ odd names′ counts′
+
+pub record OddFiled (h : Head) (odd names counts bytes : List ℕ) (v i : ℕ) (r : ReceivedHead) (odd′ names′ counts′ : List ℕ) : Type 0 where
+  pub whole : isEven v ≡ false → (even : List ℕ) → LogFiled h even odd names counts bytes v i r even odd′ names′ counts′
 
 pub record ProposalFiled (h : Head) (proposed priorities names counts bytes : List ℕ) (v i priority : ℕ) (r : ReceivedHead)
     (proposed′ priorities′ names′ counts′ : List ℕ) : Type 0 where

@@ -1,24 +1,22 @@
 // Receiving: a message is read, its window looked up, and what it says filed. What does not concern the agreements is not handed to
 // the functions on LOGs, nor what does not concern the proposals to those on PROPOSALs.
 ghost use mathlib.Core.Path.{_≡_};
-ghost use Rattle.agreement.specs.Record.{agreementFrom};
-ghost use Rattle.agreement.specs.Filing.{Files, fileOf, wordOf};
-ghost use Rattle.bench.specs.Layout.{logsPlace};
+ghost use Rattle.agreement.specs.Filing.{wordOf};
 ghost use Rattle.bench.specs.Calls.{took};
-ghost use Rattle.bench.specs.Record.{benchFrom, ofView};
+ghost use Rattle.bench.specs.Record.{benchFrom};
 ghost use Rattle.bench.specs.Answers.{heldWith, takenReply, ReceiveGives};
-ghost use Rattle.calls.specs.Steps.{receives, LogFiled, LogTaken, ProposalFiled, ProposalTaken};
+ghost use Rattle.calls.specs.Steps.{receives, EvenFiled, OddFiled, LogTaken, ProposalFiled, ProposalTaken};
 use super::calendar::takes_logs;
 use super::calendar::takes_proposals;
 use super::record::beat_of;
 use super::record::is_even;
-use super::record::logs_place;
 use super::record::of_view;
 use super::record::shown_of;
 use agreement::Answer;
-use agreement::Filed;
-use agreement::Marks;
+use agreement::filing::marked;
+use agreement::filing::store;
 use bench::Head;
+use bench::ODD_PLACE;
 use bench::PROPOSALS_PLACE;
 use bench::ReceivedHead;
 use bench::Taken;
@@ -35,28 +33,42 @@ fn word(answer: Answer) -> Taken
     }
 }
 
-// The LOG in the bytes, from this sender, in the slot of view v: it is handed the slot's numbers alone, and not the whole head.
-fn file_slot(
-    g: Marks,
-    lengths: &mut [u8; 32],
+// The LOG in the bytes, from this sender, in the agreement of view v, which is even. Even and odd are functions of their own: the
+// compiler puts each into Receive and into Act, and one of both parities it would not, and copy the head for it.
+pub(crate) fn file_even(
+    h: Head,
+    even: &mut [u8; 32],
     names: &mut [u64],
     counts: &mut [u16],
     bytes: &[u8],
     v: u32,
     sender: u8,
-) -> Filed
-    ensures { λ r. ⌜ Files (fileOf (ofView (agreementFrom g (now (lengths .entry))) v) (now (names .entry)) (now (counts .entry)) (logsPlace v) (now (bytes .entry)) sender) r
-        (now (lengths .exit)) (now (names .exit)) (now (counts .exit)) ⌝ }
+) -> ReceivedHead
+    ensures { λ r. ⌜ EvenFiled h (now (even .entry)) (now (names .entry)) (now (counts .entry)) (now (bytes .entry)) v sender r
+        (now (even .exit)) (now (names .exit)) (now (counts .exit)) ⌝ }
 {
-    let base = logs_place(v);
-    let slot = of_view(g, lengths, v);
-    agreement::filing::file(slot, lengths, names, counts, base, bytes, sender)
+    let g = of_view(h.even, even, v);
+    let answer = store(
+        g.voters,
+        g.equivocators,
+        even,
+        names,
+        counts,
+        0,
+        bytes,
+        sender,
+    );
+    let mut c = h;
+    c.even = marked(g, answer, sender);
+    ReceivedHead {
+        answer: word(answer),
+        head: c,
+    }
 }
 
-// The same in the agreement of view v.
-pub(crate) fn file_log(
+// The same where view v is odd.
+pub(crate) fn file_odd(
     h: Head,
-    even: &mut [u8; 32],
     odd: &mut [u8; 32],
     names: &mut [u64],
     counts: &mut [u16],
@@ -64,24 +76,22 @@ pub(crate) fn file_log(
     v: u32,
     sender: u8,
 ) -> ReceivedHead
-    ensures { λ r. ⌜ LogFiled h (now (even .entry)) (now (odd .entry)) (now (names .entry)) (now (counts .entry)) (now (bytes .entry)) v sender r
-        (now (even .exit)) (now (odd .exit)) (now (names .exit)) (now (counts .exit)) ⌝ }
+    ensures { λ r. ⌜ OddFiled h (now (odd .entry)) (now (names .entry)) (now (counts .entry)) (now (bytes .entry)) v sender r
+        (now (odd .exit)) (now (names .exit)) (now (counts .exit)) ⌝ }
 {
+    let g = of_view(h.odd, odd, v);
+    let answer = store(
+        g.voters,
+        g.equivocators,
+        odd,
+        names,
+        counts,
+        ODD_PLACE,
+        bytes,
+        sender,
+    );
     let mut c = h;
-    if is_even(v) {
-        let f = file_slot(h.even, even, names, counts, bytes, v, sender);
-        let answer = f.answer;
-        let marks = f.marks;
-        c.even = marks;
-        return ReceivedHead {
-            answer: word(answer),
-            head: c,
-        };
-    }
-    let f = file_slot(h.odd, odd, names, counts, bytes, v, sender);
-    let answer = f.answer;
-    let marks = f.marks;
-    c.odd = marks;
+    c.odd = marked(g, answer, sender);
     ReceivedHead {
         answer: word(answer),
         head: c,
@@ -139,7 +149,10 @@ fn take_log(
         (now (even .exit)) (now (odd .exit)) (now (names .exit)) (now (counts .exit)) ⌝ }
 {
     if takes_logs(head.view, beat_of(h)) {
-        return file_log(h, even, odd, names, counts, bytes, head.view, head.sender);
+        if is_even(head.view) {
+            return file_even(h, even, names, counts, bytes, head.view, head.sender);
+        }
+        return file_odd(h, odd, names, counts, bytes, head.view, head.sender);
     }
     ReceivedHead {
         answer: Taken::Refused(21),

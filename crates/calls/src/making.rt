@@ -8,8 +8,10 @@ ghost use Rattle.bench.specs.ByRecord.{actedOf};
 ghost use Rattle.bench.specs.Answers.{heldWith, ActGives};
 ghost use Rattle.bench.specs.Tested.{Tested};
 ghost use Rattle.calls.specs.Steps.{Making, LogMade, ProposalMade, noBlock};
-use super::filing::file_log;
+use super::filing::file_even;
+use super::filing::file_odd;
 use super::filing::file_proposal;
+use super::record::is_even;
 use super::seeing::Found;
 use super::seeing::ballot;
 use super::seeing::place_before;
@@ -41,7 +43,15 @@ fn make_log(
 {
     let own = h.own;
     write_log(out, names, counts, at, blocks as usize, own, v);
-    let filed = file_log(h, even, odd, names, counts, out, v, own);
+    if is_even(v) {
+        let filed = file_even(h, even, names, counts, out, v, own);
+        let head = filed.head;
+        return ActedHead {
+            answer: Made::Log(blocks),
+            head,
+        };
+    }
+    let filed = file_odd(h, odd, names, counts, out, v, own);
     let head = filed.head;
     ActedHead {
         answer: Made::Log(blocks),

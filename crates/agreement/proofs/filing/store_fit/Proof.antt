@@ -1,10 +1,8 @@
 use Rattle.agreement.proofs.FilingLaws.{some-bytes}
-use Rattle.agreement.proofs.FileCases.{file-equivocator, file-same, file-other, file-new}
+use Rattle.agreement.proofs.FileCases.{store-equivocator, store-same, store-other, store-new}
 use borrow.Author.Needs.{needs}
-use Rattle.agreement.proofs.filing.file_fit.Statement.{statement}
-use Rattle.agreement.proofs.filing.file_fit.Tie as tie
-use Rattle.agreement.proofs.filing.once.Reads as once-reads
-use Rattle.agreement.proofs.filing.twice.Reads as twice-reads
+use Rattle.agreement.proofs.filing.store_fit.Statement.{statement}
+use Rattle.agreement.proofs.filing.store_fit.Tie as tie
 use Rattle.agreement.proofs.room.is_filed.Reads as is-filed-reads
 use Rattle.agreement.proofs.room.store_log.Reads as store-log-reads
 use Rattle.agreement.proofs.sets.has.Reads as has-reads
@@ -13,7 +11,7 @@ has-requires : tie.Need-has-requires
 has-requires c κs = search needs
 
 returns : tie.Need-returns
-returns c = search file-equivocator
+returns c = search store-equivocator
 
 has-requires-2 : tie.Need-has-requires-2
 has-requires-2 c κs = search needs
@@ -31,10 +29,7 @@ same-length-2 : tie.Need-same-length-2
 same-length-2 c = search needs
 
 returns-2 : tie.Need-returns-2
-returns-2 c = search file-same
-
-twice-requires : tie.Need-twice-requires
-twice-requires c κs = search needs
+returns-2 c = search store-same
 
 same-length-3 : tie.Need-same-length-3
 same-length-3 c = search needs
@@ -43,7 +38,7 @@ same-length-4 : tie.Need-same-length-4
 same-length-4 c = search needs
 
 returns-3 : tie.Need-returns-3
-returns-3 c = search file-other
+returns-3 c = search store-other
 
 store-log-requires : tie.Need-store-log-requires
 store-log-requires c κs = search needs
@@ -54,9 +49,6 @@ shared-slice-read-lengths c = search some-bytes
 element-write-lengths : tie.Need-element-write-lengths
 element-write-lengths c = search needs
 
-once-requires : tie.Need-once-requires
-once-requires c κs = search needs
-
 same-length-5 : tie.Need-same-length-5
 same-length-5 c = search needs
 
@@ -64,10 +56,10 @@ same-length-6 : tie.Need-same-length-6
 same-length-6 c = search needs
 
 returns-4 : tie.Need-returns-4
-returns-4 c = search file-new
+returns-4 c = search store-new
 
-pub file-fit-spec : {M : Type 1} → statement M
-file-fit-spec =
+pub store-fit-spec : {M : Type 1} → statement M
+store-fit-spec =
     tie.close
     (tie.spec
     has-requires
@@ -78,14 +70,12 @@ file-fit-spec =
     same-length
     same-length-2
     returns-2
-    twice-requires
     same-length-3
     same-length-4
     returns-3
     store-log-requires
     shared-slice-read-lengths
     element-write-lengths
-    once-requires
     same-length-5
     same-length-6
     returns-4)

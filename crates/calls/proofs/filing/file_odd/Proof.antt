@@ -1,0 +1,43 @@
+use Rattle.calls.proofs.FilingCases.{filed-odd}
+use borrow.Author.Needs.{needs}
+use Rattle.calls.proofs.filing.file_odd.Statement.{statement}
+use Rattle.calls.proofs.filing.file_odd.Tie as tie
+use Rattle.calls.proofs.filing.file_odd.Reads as reads
+use Rattle.calls.proofs.filing.file_odd.Lts as lts
+use Rattle.agreement.proofs.filing.marked.Reads as marked-reads
+use Rattle.agreement.proofs.filing.store.Reads as store-reads
+use Rattle.calls.proofs.filing.word.Reads as word-reads
+use Rattle.calls.proofs.record.of_view.Reads as of-view-reads
+
+of-view-requires : tie.Need-of-view-requires
+of-view-requires c κs = search needs
+
+store-requires : tie.Need-store-requires
+store-requires c κs = search needs
+
+marked-requires : tie.Need-marked-requires
+marked-requires c κs = search needs
+
+word-requires : tie.Need-word-requires
+word-requires c κs = search needs
+
+same-length : tie.Need-same-length
+same-length c = search needs
+
+same-length-2 : tie.Need-same-length-2
+same-length-2 c = search needs
+
+returns : tie.Need-returns
+returns c = search filed-odd
+
+pub file-odd-spec : {M : Type 1} → statement M
+file-odd-spec =
+    tie.close
+    (tie.spec
+    of-view-requires
+    store-requires
+    marked-requires
+    word-requires
+    same-length
+    same-length-2
+    returns)
