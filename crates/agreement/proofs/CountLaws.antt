@@ -6,10 +6,11 @@ use native.Mathlib.Omega.{arith}
 use mathlib.Core.Bool.{Bool, true, false, _&&_, _||_}
 use mathlib.Core.List.{List}
 use mathlib.Core.Path.{_≡_, refl, sym, ap, _∙_}
-use borrow.Author.Tests.{lt-ltb, le-ltb}
+use borrow.Author.Tests.{lt-ltb, le-ltb, ltb-true, ltb-false}
 use lib.Dec.{eqb, ltb}
 use lib.ListN.{getD}
 use lib.Pow.{pow-pos, pow-mono, shr-shr}
+use Rattle.message.specs.Choice.{pick}
 use Rattle.message.proofs.TestLaws.{either, or-no}
 use Rattle.agreement.specs.Limits.{mostSenders}
 use Rattle.agreement.specs.Sets.{share, weigh, ones, count, member, adding}
@@ -68,6 +69,38 @@ some-next p r x i e f =
 pub over-next : (row : List ℕ) (l z i : ℕ) (r x : Bool) → r ≡ ltb 0 (count i (λ (j : ℕ). ltb l (getD row j 0))) → z ≡ getD row i 0 → x ≡ (r || ltb l z)
     → x ≡ ltb 0 (count (i + 1) (λ (j : ℕ). ltb l (getD row j 0)))
 over-next row l z i r x e s f = some-next (λ (j : ℕ). ltb l (getD row j 0)) r x i e (f ∙ ap (λ (k : ℕ). r || ltb l k) s)
+
+-- the larger of two numbers is over l where one of them is
+pub larger-second : (a b : ℕ) → a < b → b ≡ pick (ltb a b) b a
+larger-second a b h = rw (lt-ltb a b h)
+
+pub larger-first : (a b : ℕ) → b ≤ a → a ≡ pick (ltb a b) b a
+larger-first a b h = rw (le-ltb a b h)
+
+over-larger : (l a b : ℕ) → ltb l (pick (ltb a b) b a) ≡ (ltb l a || ltb l b)
+over-larger l a b =
+    either (ltb a b)
+    (λ e.
+    let h = ltb-true a b e in
+    either (ltb l a)
+    (λ f. let k = ltb-true l a f in rw (e, f, lt-ltb l b (omega arith)))
+    (λ f. rw (e, f)))
+    (λ e.
+    let h = ltb-false a b e in
+    either (ltb l a)
+    (λ f. rw (e, f))
+    (λ f. let k = ltb-false l a f in rw (e, f, le-ltb l b (omega arith))))
+
+-- a number in one of three rows over l
+abbrev pub anyOver : List ℕ → List ℕ → List ℕ → ℕ → ℕ → Bool
+anyOver a b c l j = ltb l (getD a j 0) || (ltb l (getD b j 0) || ltb l (getD c j 0))
+
+pub rows-next : (a b c : List ℕ) (l x y z i : ℕ) (r w : Bool) → r ≡ ltb 0 (count i (anyOver a b c l))
+    → x ≡ pick (ltb (getD b i 0) (getD c i 0)) (getD c i 0) (getD b i 0) → y ≡ pick (ltb (getD a i 0) x) x (getD a i 0) → z ≡ y → w ≡ (r || ltb l z)
+    → w ≡ ltb 0 (count (i + 1) (anyOver a b c l))
+rows-next a b c l x y z i r w e f g h k =
+    let m = over-larger l (getD a i 0) x ∙ ap (λ (t : Bool). ltb l (getD a i 0) || t) (ap (ltb l) f ∙ over-larger l (getD b i 0) (getD c i 0)) in
+    some-next (anyOver a b c l) r w i e (k ∙ ap (λ (t : Bool). r || t) (ap (ltb l) (h ∙ g) ∙ m))
 
 pub some-all : (p : ℕ → Bool) (r : Bool) (i : ℕ) → r ≡ ltb 0 (count i p) → i ≤ mostSenders → mostSenders ≤ i → r ≡ ltb 0 (count mostSenders p)
 some-all p r i e h g = let s : i ≡ mostSenders = omega arith in e ∙ ap (λ (k : ℕ). ltb 0 (count k p)) s

@@ -2,13 +2,16 @@
 use Prim.Native.Nat.{ℕ, _+_, _-_, _^_, _≤_, _<_}
 use native.Mathlib.Omega.{arith}
 use mathlib.Core.Bool.{Bool, true, false, not, _&&_, _||_, false≢true}
+use mathlib.Core.List.{List}
 use mathlib.Core.Path.{_≡_, sym, ap, subst, _∙_}
 use borrow.Author.Tests.{ltb-true, ltb-false, leb-true, leb-false, lt-leb, le-leb, eqb-true, eq-eqb}
 use lib.Dec.{eqb, leb, ltb}
+use lib.ListN.{getD}
 use Rattle.message.proofs.TestLaws.{either, or-false, or-true}
 use Rattle.agreement.specs.Limits.{mostSenders}
 use Rattle.agreement.specs.Sets.{ones, count, member}
 use Rattle.agreement.specs.Steps.{SetOf}
+use Rattle.agreement.proofs.CountLaws.{some-all, anyOver}
 use Rattle.agreement.proofs.SetLaws.{weigh-none, weigh-some}
 use Rattle.agreement.proofs.MaskLaws.{member-past, member-zero, below-digits}
 
@@ -82,3 +85,12 @@ module _ (set n : ℕ) where
       either (leb n i)
       (λ v. ap (λ (w : Bool). w && member set i) v ∙ member-past set n i (omega arith) (leb-true n i v))
       (λ v. ap (λ (w : Bool). w && member set i) v))))
+
+-- three rows, asked together
+pub rows-over : (a b c : List ℕ) (l : ℕ) (r : Bool) (i : ℕ) → r ≡ ltb 0 (count i (anyOver a b c l)) → i ≤ mostSenders → mostSenders ≤ i
+    → r ≡ (ltb 0 (count mostSenders (λ (j : ℕ). ltb l (getD a j 0)))
+    || (ltb 0 (count mostSenders (λ (j : ℕ). ltb l (getD b j 0))) || ltb 0 (count mostSenders (λ (j : ℕ). ltb l (getD c j 0)))))
+rows-over a b c l r i e h g =
+    some-all (anyOver a b c l) r i e h g
+    ∙ some-or (λ (j : ℕ). ltb l (getD a j 0)) (λ (j : ℕ). ltb l (getD b j 0) || ltb l (getD c j 0))
+    ∙ ap (λ (t : Bool). ltb 0 (count mostSenders (λ (j : ℕ). ltb l (getD a j 0))) || t) (some-or (λ (j : ℕ). ltb l (getD b j 0)) (λ (j : ℕ). ltb l (getD c j 0)))

@@ -3,6 +3,7 @@ ghost use mathlib.Core.Path.{_≡_};
 ghost use Prim.Native.Nat.{_≤_, _<_};
 ghost use lib.Dec.{ltb};
 ghost use lib.ListN.{getD};
+ghost use Rattle.message.specs.Choice.{pick};
 ghost use Rattle.agreement.specs.Limits.{mostSenders};
 ghost use Rattle.agreement.specs.Sets.{share, count, member};
 ghost use Rattle.agreement.specs.Record.{agreementFrom};
@@ -34,13 +35,37 @@ pub fn senders(g: Marks) -> usize
 }
 
 // Some sender's number in the row is over l.
-pub fn is_over(row: &[u8; 32], l: usize) -> bool
+pub(crate) fn is_over(row: &[u8; 32], l: usize) -> bool
     ensures { λ r. ⌜ r ≡ ltb 0 (count mostSenders (λ i. ltb l (getD (now (row .entry)) i 0))) ⌝ }
 {
     let mut over = false;
     let mut i = 0;
     while i < MOST_SENDERS {
         over = over | (l < wide(row[i]));
+        i += 1;
+    }
+    over
+}
+
+// The larger of two numbers.
+fn larger(a: u8, b: u8) -> u8
+    ensures { λ r. ⌜ r ≡ pick (ltb a b) b a ⌝ }
+{
+    if a < b {
+        return b;
+    }
+    a
+}
+
+// Some sender's number in one of three rows is over l. The largest of three is tested, not each.
+pub fn are_over(a: &[u8; 32], b: &[u8; 32], c: &[u8; 32], l: usize) -> bool
+    ensures { λ r. ⌜ r ≡ (ltb 0 (count mostSenders (λ i. ltb l (getD (now (a .entry)) i 0)))
+        || (ltb 0 (count mostSenders (λ i. ltb l (getD (now (b .entry)) i 0))) || ltb 0 (count mostSenders (λ i. ltb l (getD (now (c .entry)) i 0))))) ⌝ }
+{
+    let mut over = false;
+    let mut i = 0;
+    while i < MOST_SENDERS {
+        over = over | (l < wide(larger(a[i], larger(b[i], c[i]))));
         i += 1;
     }
     over

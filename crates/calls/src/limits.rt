@@ -1,11 +1,12 @@
 // Refusals 7, 8 and 9. What a record within its limits is stands in crate bench (specs/Record.antt); all 32 places of each array are
 // looked at.
 ghost use mathlib.Core.Path.{_≡_};
+ghost use mathlib.Core.Bool.{_||_};
+ghost use lib.Dec.{ltb};
 ghost use mathlib.Core.List.{[]};
-ghost use Rattle.agreement.specs.Record.{agreementFrom};
-ghost use Rattle.agreement.specs.Proposals.{proposalsFrom};
+ghost use Rattle.message.specs.Limits.{lastView};
 ghost use Rattle.bench.specs.Layout.{outOfRange, shortLists};
-ghost use Rattle.bench.specs.Record.{benchFrom, beyondAgreement, beyondProposals, beyond};
+ghost use Rattle.bench.specs.Record.{benchFrom, anyPlace, namesBeyond, beyond};
 ghost use Rattle.bench.specs.Answers.{lentAs};
 ghost use Rattle.calls.specs.Steps.{badSets};
 use agreement::MOST_SENDERS;
@@ -14,7 +15,7 @@ use agreement::Shown;
 use agreement::sets::exceeds;
 use agreement::sets::meet;
 use agreement::sets::reaches;
-use agreement::tally::is_over;
+use agreement::tally::are_over;
 use bench::Head;
 use bench::LAST_BEAT;
 use bench::LEAST_LENT;
@@ -45,16 +46,17 @@ fn are_bad_sets(g: Marks, n: u8) -> bool
     reaches(s | snapped, n) | (meet(g.voters, g.equivocators) | exceeds(snapped, s))
 }
 
-fn is_beyond_agreement(g: Marks, lengths: &[u8; 32], n: u8) -> bool
-    ensures { λ r. ⌜ r ≡ beyondAgreement n (agreementFrom g (now (lengths .entry))) ⌝ }
+// The lengths apart, which are tested for both agreements and the proposals together.
+fn is_beyond_agreement(g: Marks, n: u8) -> bool
+    ensures { λ r. ⌜ r ≡ (ltb lastView (g .view) || badSets n g) ⌝ }
 {
-    (LAST_VIEW < g.view) | (is_over(lengths, MOST_BLOCKS) | are_bad_sets(g, n))
+    (LAST_VIEW < g.view) | are_bad_sets(g, n)
 }
 
-fn is_beyond_proposals(g: Shown, lengths: &[u8; 32], n: u8) -> bool
-    ensures { λ r. ⌜ r ≡ beyondProposals n (proposalsFrom g (now (lengths .entry)) []) ⌝ }
+fn is_beyond_proposals(g: Shown, n: u8) -> bool
+    ensures { λ r. ⌜ r ≡ (ltb lastView (g .view) || (anyPlace (namesBeyond n (g .filed)) || anyPlace (namesBeyond n (g .aside)))) ⌝ }
 {
-    (LAST_VIEW < g.view) | (is_over(lengths, MOST_BLOCKS) | reaches(g.filed | g.aside, n))
+    (LAST_VIEW < g.view) | reaches(g.filed | g.aside, n)
 }
 
 // The record is beyond its limits. Priorities have none.
@@ -65,7 +67,7 @@ pub(crate) fn is_beyond(h: Head, even: &[u8; 32], odd: &[u8; 32], proposed: &[u8
     is_out_of_range(n, h.own)
         | ((LAST_BEAT + 1 < h.next)
             | ((MOST_BLOCKS < h.decided as usize)
-                | (is_beyond_agreement(h.even, even, n)
-                    | (is_beyond_agreement(h.odd, odd, n)
-                        | is_beyond_proposals(h.shown, proposed, n)))))
+                | (are_over(even, odd, proposed, MOST_BLOCKS)
+                    | (is_beyond_agreement(h.even, n)
+                        | (is_beyond_agreement(h.odd, n) | is_beyond_proposals(h.shown, n))))))
 }

@@ -4,6 +4,7 @@ use Rattle.calls.proofs.limits.is_beyond.Statement.{statement}
 use Rattle.calls.proofs.limits.is_beyond.Tie as tie
 use Rattle.calls.proofs.limits.is_beyond.Reads as reads
 use Rattle.calls.proofs.limits.is_beyond.Lts as lts
+use Rattle.agreement.proofs.tally.are_over.Reads as are-over-reads
 use Rattle.calls.proofs.limits.is_beyond_agreement.Reads as is-beyond-agreement-reads
 use Rattle.calls.proofs.limits.is_beyond_proposals.Reads as is-beyond-proposals-reads
 use Rattle.calls.proofs.limits.is_out_of_range.Reads as is-out-of-range-reads
@@ -16,6 +17,9 @@ add-result c = search needs
 
 cast-result : tie.Need-cast-result
 cast-result c = search needs
+
+are-over-requires : tie.Need-are-over-requires
+are-over-requires c κs = search needs
 
 is-beyond-agreement-requires : tie.Need-is-beyond-agreement-requires
 is-beyond-agreement-requires c κs = search needs
@@ -36,6 +40,7 @@ is-beyond-spec =
     is-out-of-range-requires
     add-result
     cast-result
+    are-over-requires
     is-beyond-agreement-requires
     is-beyond-agreement-requires-2
     is-beyond-proposals-requires
