@@ -16,7 +16,7 @@ use Rattle.agreement.specs.Record.{emptyAgreement, SnapshotNumber, one, two, wi
 use Rattle.agreement.specs.Grades.{gradeOf}
 use Rattle.bench.specs.Layout.{logsPlace, decidedPlace}
 use Rattle.bench.specs.Calendar.{Act, proposing, voting, deciding, snapping, gradeRead}
-use Rattle.bench.specs.Calls.{State, acted}
+use Rattle.bench.specs.Calls.{Core, acted}
 use Rattle.bench.specs.Acts.{Seen, usedFirst, usedOfGrade, propose, vote, makes, outAfter}
 use Rattle.bench.specs.Record.{Bench, agreementOf, withAgreement, withDecided, withParted}
 use Rattle.bench.specs.ByRecord.{fileLog, fileProposal, fileMessage, usedOf, seenOf, decidedLog, settled, snappedBy, changed, withMade, actedOf}
@@ -25,14 +25,14 @@ use Rattle.bench.proofs.Slots.{same-agreement}
 
 -- ---- the log used, and the agreement read: those of the view before
 
-module _ (s : State) where
+module _ (s : Core) where
   pub usedOf-first : (a : Act) → usedOf s 0 a ≡ usedFirst a
   unfolding usedOf
   usedOf-first a = refl
 
   pub usedOf-later : (v : ℕ) (a : Act) → (v ≡ 0 → ⊥)
       → usedOf s v a
-      ≡ usedOfGrade (gradeOf (s .lent .names) (s .lent .counts) (logsPlace (v - 1)) (agreementOf (s .bench) (v - 1))) (gradeRead a)
+      ≡ usedOfGrade (gradeOf (s .names) (s .counts) (logsPlace (v - 1)) (agreementOf (s .bench) (v - 1))) (gradeRead a)
   unfolding usedOf
   usedOf-later zero a h = absurd (h refl)
   usedOf-later (suc u) a h = let e : suc u - 1 ≡ u = omega arith in rw e
@@ -54,11 +54,11 @@ module _ (b : Bench) where
   before-later (suc u) h = let e : suc u - 1 ≡ u = omega arith in rw e
 
 -- of the record, the agreements alone matter to both
-pub same-used : (s t : State) (v : ℕ) (a : Act) → t .lent ≡ s .lent → t .bench .even ≡ s .bench .even → t .bench .odd ≡ s .bench .odd
+pub same-used : (s t : Core) (v : ℕ) (a : Act) → t .names ≡ s .names → t .counts ≡ s .counts → t .bench .even ≡ s .bench .even → t .bench .odd ≡ s .bench .odd
     → usedOf t v a ≡ usedOf s v a
 unfolding usedOf
-same-used s t zero a l e o = refl
-same-used s t (suc u) a l e o = rw (l, same-agreement (s .bench) (t .bench) u e o)
+same-used s t zero a n c e o = refl
+same-used s t (suc u) a n c e o = rw (n, c, same-agreement (s .bench) (t .bench) u e o)
 
 pub same-before : (b c : Bench) (v : ℕ) → c .even ≡ b .even → c .odd ≡ b .odd → agreementBefore c v ≡ agreementBefore b v
 unfolding agreementBefore
@@ -129,7 +129,7 @@ module _ (own v : ℕ) (block : Block) (priority : ℕ) (seen : Seen) where
 
 -- ---- filing, by the kind
 
-module _ (s : State) (bytes : List ℕ) (m : Content) where
+module _ (s : Core) (bytes : List ℕ) (m : Content) where
   pub file-log : fileMessage s bytes (logMessage m) ≡ fileLog s bytes (m .view) (m .sender)
   unfolding fileMessage
   file-log = refl
@@ -141,7 +141,7 @@ module _ (s : State) (bytes : List ℕ) (m : Content) where
 
 -- ---- a decision: none, or one that extends the decided log, is a prefix of it, or conflicts with it
 
-module _ (s : State) where
+module _ (s : Core) where
   pub settled-none : settled s none ≡ s
   unfolding settled
   settled-none = refl
@@ -149,7 +149,8 @@ module _ (s : State) where
   module _ (L : Log) where
     pub settled-extends : isPrefix (decidedLog s) L ≡ true → settled s (some L) ≡ record {
       bench = withDecided (s .bench) (length L);
-      lent = record { names = put (s .lent .names) decidedPlace (namesOf L); counts = put (s .lent .counts) decidedPlace (countsOf L) };
+      names = put (s .names) decidedPlace (namesOf L);
+      counts = put (s .counts) decidedPlace (countsOf L);
     }
     unfolding settled
     settled-extends e = rw e
@@ -159,25 +160,25 @@ module _ (s : State) where
       unfolding settled
       settled-stays f = rw (e, f)
 
-      pub settled-parts : isPrefix L (decidedLog s) ≡ false → settled s (some L) ≡ record { bench = withParted (s .bench); lent = s .lent }
+      pub settled-parts : isPrefix L (decidedLog s) ≡ false → settled s (some L) ≡ record { bench = withParted (s .bench); names = s .names; counts = s .counts }
       unfolding settled
       settled-parts f = rw (e, f)
 
 -- ---- a snapshot: none past the last view
 
-module _ (k : SnapshotNumber) (v : ℕ) (s : State) where
+module _ (k : SnapshotNumber) (v : ℕ) (s : Core) where
   pub snapped-late : lastView < v → snappedBy k v s ≡ s
   unfolding snappedBy
   snapped-late h = rw (lt-leb v lastView h)
 
   pub snapped-view : v ≤ lastView
-      → snappedBy k v s ≡ record { bench = withAgreement (s .bench) v (withSnapshot k (agreementOf (s .bench) v)); lent = s .lent }
+      → snappedBy k v s ≡ record { bench = withAgreement (s .bench) v (withSnapshot k (agreementOf (s .bench) v)); names = s .names; counts = s .counts }
   unfolding snappedBy
   snapped-view h = rw (le-leb v lastView h)
 
 -- ---- what an act changes besides filing what it makes, and the whole of it
 
-module _ (s : State) (v : ℕ) where
+module _ (s : Core) (v : ℕ) where
   pub changed-proposing : changed s v proposing ≡ s
   unfolding changed settled
   changed-proposing = refl
@@ -195,10 +196,10 @@ module _ (s : State) (v : ℕ) where
   changed-snapping = refl
 
   -- by what it changes and makes
-  pub acted-by : (block : Block) (priority : ℕ) (out : List ℕ) (a : Act) (t : State) (made : Option Meaning)
+  pub acted-by : (block : Block) (priority : ℕ) (out : List ℕ) (a : Act) (t : Core) (made : Option Meaning)
       → changed s v a ≡ t → makes (s .bench .own) v block priority (seenOf s v a) a ≡ made
       → actedOf s block priority out v a
-      ≡ record { held = withMade t made; answer = record { reply = acted made; out = outAfter made out } }
+      ≡ record { core = withMade t made; answer = record { reply = acted made; out = outAfter made out } }
   unfolding actedOf
   acted-by block priority out a t made e q = rw (e, q)
 

@@ -3,7 +3,7 @@
 use Prim.Native.Nat.{ℕ, _+_, _≤_, _<_}
 use native.Mathlib.Omega.{arith}
 use mathlib.Core.Bool.{Bool}
-use mathlib.Core.List.{List·Memᴰ·cases-cons}
+use mathlib.Core.List.{List, List·Memᴰ·cases-cons}
 use mathlib.Core.Logic.{inl, inr}
 use mathlib.Core.Option.{Option, some}
 use mathlib.Core.Path.{_≡_, refl, sym, ap, subst, _∙_, fun-ext}
@@ -18,7 +18,7 @@ use Rattle.agreement.specs.Heard.{heardLogs}
 use Rattle.agreement.specs.Proposals.{Proposals}
 use Rattle.agreement.proofs.KeptLaws.{kept-voter, kept-snapshot}
 use Rattle.agreement.proofs.ElsewhereLaws.{untouched}
-use Rattle.bench.specs.Layout.{logsPlace, Lent}
+use Rattle.bench.specs.Layout.{logsPlace}
 use Rattle.bench.specs.Calendar.{lastView, inputBeat, snapshotBeat, closeBeat}
 use Rattle.bench.specs.History.{ActRecord, History, beatNow, heardAt, snapshotOf, snapshotTook, closed}
 use Rattle.bench.specs.Record.{agreementOf, withAgreement, Bench}
@@ -50,7 +50,7 @@ module _ (p : History) (made : Option Meaning) (decided : Option Log) (beat : �
   same-view : (u : ℕ) → NoneOf u → SameView p q u
   same-view u x = record { logs = λ i. refl; acts = λ k. heard-before (snapshotBeat k u) (x k) }
 
-  module _ {b : Bench} {l : Lent} (next : b .next ≡ beat + 1) (f : Fine b) (h : Filled b l p) where
+  module _ {b : Bench} {ns cs : List ℕ} (next : b .next ≡ beat + 1) (f : Fine b) (h : Filled b ns cs p) where
     since-then : Since (b .next) q
     since-then = record {
       logs = h .since .logs;
@@ -62,7 +62,7 @@ module _ (p : History) (made : Option Meaning) (decided : Option Log) (beat : �
     }
 
     -- an act at a beat of no snapshot
-    pub quiet-filled : ((u : ℕ) → u ≤ lastView → NoneOf u) → Filled b l q
+    pub quiet-filled : ((u : ℕ) → u ≤ lastView → NoneOf u) → Filled b ns cs q
     quiet-filled none-then = record {
       views = λ u i o. holds-same (same-view u (none-then u i)) (h .views u i o);
       proposals = λ u i o. h .proposals u i o;
@@ -76,24 +76,24 @@ module _ (p : History) (made : Option Meaning) (decided : Option Log) (beat : �
           let g = agreementOf b v in
           ap {B = Option (ℕ → Bool)} some
           (fun-ext (λ i.
-          kept-voter (l .names) (l .counts) (logsPlace v) g i (not-both (b .n) g (agreement-fine b v low f) i)
+          kept-voter ns cs (logsPlace v) g i (not-both (b .n) g (agreement-fine b v low f) i)
           ∙ ap singleOf (h .views v low soon .logs i)))
 
-      snapped-filled : (g : Agreement) → g .marks .view ≡ v → Holds l g q v
-          → ((u : ℕ) → (u ≡ v → ⊥) → NoneOf u) → Filled (withAgreement b v g) l q
+      snapped-filled : (g : Agreement) → g .marks .view ≡ v → Holds ns cs g q v
+          → ((u : ℕ) → (u ≡ v → ⊥) → NoneOf u) → Filled (withAgreement b v g) ns cs q
       snapped-filled g view here others =
           let e = agreement-rest b v g in
           let x = e .next in
           record {
             views = λ u i o.
-                agreement-views f h v late soon (untouched (logsPlace v) span (l .names) (l .counts)) g view here
+                agreement-views f h v late soon (untouched (logsPlace v) span ns cs) g view here
                 (λ w d j. same-view w (others w d)) u i (omega arith);
             proposals = λ u i o.
-                subst (λ (z : Proposals). HoldsProposals l z q u) (sym (changed-proposals b v g u)) (h .proposals u i (omega arith));
+                subst (λ (z : Proposals). HoldsProposals ns cs z q u) (sym (changed-proposals b v g u)) (h .proposals u i (omega arith));
             since = subst (λ (z : ℕ). Since z q) (sym x) since-then;
           }
 
-      pub snapshot-filled : (k : SnapshotNumber) → beat ≡ snapshotBeat k v → Filled (withAgreement b v (withSnapshot k (agreementOf b v))) l q
+      pub snapshot-filled : (k : SnapshotNumber) → beat ≡ snapshotBeat k v → Filled (withAgreement b v (withSnapshot k (agreementOf b v))) ns cs q
       snapshot-filled k e =
           let old = h .views v low soon in
           let taken : some (member (agreementOf b v .marks .voters)) ≡ snapshotTook q k v =
@@ -106,8 +106,8 @@ module _ (p : History) (made : Option Meaning) (decided : Option Log) (beat : �
           snapped-view one = agreement-view b v
           snapped-view two = agreement-view b v
 
-          same-logs : (k : SnapshotNumber) (i : ℕ) → keptLog (l .names) (l .counts) (logsPlace v) (withSnapshot k (agreementOf b v)) i ≡ heardLogs (q .heard) v i
-          same-logs k i = kept-snapshot k (l .names) (l .counts) (logsPlace v) (agreementOf b v) i ∙ h .views v low soon .logs i
+          same-logs : (k : SnapshotNumber) (i : ℕ) → keptLog ns cs (logsPlace v) (withSnapshot k (agreementOf b v)) i ≡ heardLogs (q .heard) v i
+          same-logs k i = kept-snapshot k ns cs (logsPlace v) (agreementOf b v) i ∙ h .views v low soon .logs i
 
           each : (k : SnapshotNumber) → beat ≡ snapshotBeat k v → some (member (agreementOf b v .marks .voters)) ≡ snapshotTook q k v
               → ((j : SnapshotNumber) → (beat ≡ snapshotBeat j v → ⊥) → snapshotIn (snapshotAt j (agreementOf b v .marks)) ≡ snapshotTook q j v)

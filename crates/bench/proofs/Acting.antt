@@ -19,12 +19,12 @@ use Rattle.agreement.specs.Sets.{isYes}
 use Rattle.bench.specs.Terms.{Seat}
 use Rattle.bench.specs.Layout.{decidedPlace}
 use Rattle.bench.specs.Calendar.{lastView, viewBeat, inputBeat, snapshotBeat, snapshotTaken, closeBeat, viewOf, placeIn, Act, actAt}
-use Rattle.bench.specs.Calls.{act, acted, openTo, Typed, State}
+use Rattle.bench.specs.Calls.{act, acted, openTo, Typed, State, Core, coreOf}
 use Rattle.bench.specs.Acts.{Seen, mayPropose, isView, propose, vote, makes, outAfter, decides}
 use Rattle.bench.specs.Causes.{actCauses}
 use Rattle.bench.specs.History.{History, beatNow, refusal, seenAt, madeBy, decidedBy, fileMade, closed, accepted, answer, acceptedAnswer, standIn}
 use Rattle.bench.specs.Record.{agreementOf, proposalsOf, beatOf, idle, Bench}
-use Rattle.bench.specs.ByRecord.{usedOf, seenOf, snappedBy, snapped, changed, withMade, actedOf, over, actOf}
+use Rattle.bench.specs.ByRecord.{stepBy, usedOf, seenOf, snappedBy, snapped, changed, withMade, actedOf, over, actedNow, actOf}
 use Rattle.bench.proofs.Fine.{Fine}
 use Rattle.bench.proofs.FineAgreements.{snapshot-fine}
 use Rattle.bench.proofs.FineBench.{with-agreement-fine}
@@ -76,12 +76,12 @@ last-injective (suc j) (suc k) e = ap suc (Option·some-injective _ _ e)
 
 -- ---- the end of the gathering does not change what is seen
 
-over-seen : (s : State) (v : ℕ) (a : Act) → seenOf (over s) v a ≡ seenOf s v a
+over-seen : (s : Core) (v : ℕ) (a : Act) → seenOf (over s) v a ≡ seenOf s v a
 unfolding usedOf agreementOf proposalsOf
 over-seen s zero a = refl
 over-seen s (suc u) a = refl
 
-module _ (S : Seat) (s : State) (p : History) (t : Tie S s p) (busy : p .gathering ≡ true) where
+module _ (S : Seat) (s : Core) (p : History) (t : Tie S s p) (busy : p .gathering ≡ true) where
   abbrev beat : ℕ
   beat = beatOf (s .bench)
 
@@ -95,8 +95,8 @@ module _ (S : Seat) (s : State) (p : History) (t : Tie S s p) (busy : p .gatheri
 
   module _ (made : Option Meaning) (d : Option Log) where
     -- a settled state whose agreements alone changed since
-    rest-tie : {x : State} {c : Bench} → Settled S s p d x → SameBesides (x .bench) c → Fine c → Filled c (x .lent) (closed p made d)
-        → Tie S (record { bench = c; lent = x .lent }) (closed p made d)
+    rest-tie : {x : Core} {c : Bench} → Settled S s p d x → SameBesides (x .bench) c → Fine c → Filled c (x .names) (x .counts) (closed p made d)
+        → Tie S (record { bench = c; names = x .names; counts = x .counts }) (closed p made d)
     unfolding standIn
     rest-tie {x} {c} w r f h =
         let e = r .decided in
@@ -110,17 +110,17 @@ module _ (S : Seat) (s : State) (p : History) (t : Tie S s p) (busy : p .gatheri
           last-is = ap lastOf (r .next ∙ w .next-is) ∙ t .last-is;
           gathering-is = ap (λ (y : ℕ). not (not (isYes y) || eqb (c .next) 0)) g;
           filled = h;
-          stand-is = (λ i. record { log = logAt (x .lent .names) (x .lent .counts) decidedPlace (e i); parted = isYes (m i) }) ∙ w .stand-is;
+          stand-is = (λ i. record { log = logAt (x .names) (x .counts) decidedPlace (e i); parted = isYes (m i) }) ∙ w .stand-is;
           good = record { heard = t .good .heard; proposals = t .good .proposals; priorities = t .good .priorities };
         }
 
-    settled-tie : {x : State} → Settled S s p d x → ((u : ℕ) → u ≤ lastView → NoneOf p made d beat now u) → Tie S x (closed p made d)
+    settled-tie : {x : Core} → Settled S s p d x → ((u : ℕ) → u ≤ lastView → NoneOf p made d beat now u) → Tie S x (closed p made d)
     settled-tie {x} w quiet =
         rest-tie w (record { n = refl; own = refl; next = refl; gathering = refl; proposals = refl; decided = refl; parted = refl }) (w .fine)
         (quiet-filled p made d beat now (w .next-is ∙ next) (w .fine) (w .filled) quiet)
 
     -- a snapshot of view v, or none after the last view
-    snapshot-tie : {x : State} (k : SnapshotNumber) (v : ℕ) → Settled S s p d x → beat ≡ snapshotBeat k v → Tie S (snappedBy k v x) (closed p made d)
+    snapshot-tie : {x : Core} (k : SnapshotNumber) (v : ℕ) → Settled S s p d x → beat ≡ snapshotBeat k v → Tie S (snappedBy k v x) (closed p made d)
     unfolding snappedBy
     snapshot-tie {x} k v w e =
         let nx = w .next-is ∙ next in
@@ -152,7 +152,7 @@ module _ (S : Seat) (s : State) (p : History) (t : Tie S s p) (busy : p .gatheri
   unfolding changed
   changed-tie made v r ev er good = snap r er (decision-settled S s p t (decides (seenOf (over s) v (actAt r)) (actAt r)) good)
     where
-      snap : (k : ℕ) → placeIn beat ≡ k → {d : Option Log} {x : State} → Settled S s p d x → Tie S (snapped (snapshotTaken (actAt k)) v x) (closed p made d)
+      snap : (k : ℕ) → placeIn beat ≡ k → {d : Option Log} {x : Core} → Settled S s p d x → Tie S (snapped (snapshotTaken (actAt k)) v x) (closed p made d)
       snap zero e {d} w = settled-tie made d w (λ u l j. elim j [ one ↦ (λ z. omega arith) | two ↦ (λ z. omega arith) ])
       snap (suc zero) e {d} w = settled-tie made d w (λ u l j. elim j [ one ↦ (λ z. omega arith) | two ↦ (λ z. omega arith) ])
       snap (suc (suc zero)) e {d} w = snapshot-tie made d one v w (omega arith)
@@ -178,7 +178,7 @@ module _ (S : Seat) (s : State) (p : History) (t : Tie S s p) (busy : p .gatheri
 
     module _ (typed : (block .name < 2 ^ 64) × (block .count < 2 ^ 16) × (priority < 2 ^ 64)) where
       -- what is made is filed in both
-      filed-tie : (x : State) (q : History) → Tie S x q → x .bench .next ≡ s .bench .next → (o : Option Meaning) → o ≡ madeBy S p block priority → Tie S (withMade x o) (fileMade q o)
+      filed-tie : (x : Core) (q : History) → Tie S x q → x .bench .next ≡ s .bench .next → (o : Option Meaning) → o ≡ madeBy S p block priority → Tie S (withMade x o) (fileMade q o)
       filed-tie x q h nx none e = h
       filed-tie x q h nx (some m) e =
           let lo : S .own < S .terms .n = let a = t .fine .own in let c = t .own-is in let f = t .n-is in omega arith in
@@ -199,7 +199,7 @@ module _ (S : Seat) (s : State) (p : History) (t : Tie S s p) (busy : p .gatheri
 
       act-accepted : (out : List ℕ)
           → (actedOf (over s) block priority out (viewOf beat) (actAt (placeIn beat)) .answer ≡ acceptedAnswer S p (act block priority out))
-          × Tie S (actedOf (over s) block priority out (viewOf beat) (actAt (placeIn beat)) .held) (accepted S p (act block priority out))
+          × Tie S (actedOf (over s) block priority out (viewOf beat) (actAt (placeIn beat)) .core) (accepted S p (act block priority out))
       unfolding actedOf accepted acceptedAnswer
       act-accepted out =
           let e = made-same in (
@@ -208,12 +208,12 @@ module _ (S : Seat) (s : State) (p : History) (t : Tie S s p) (busy : p .gatheri
                 (filed-tie (changed (over s) (viewOf beat) (actAt (placeIn beat))) (closed p (madeBy S p block priority) (decidedBy S p)) changes next-kept (madeBy S p block priority) refl),
           )
 
-pub act-agrees : (S : Seat) (s : State) (p : History) → Tie S s p → (block : Block) (priority : ℕ) (out : List ℕ) → Typed (act block priority out)
+pub act-agrees : (S : Seat) (s : State) (p : History) → Tie S (coreOf s) p → (block : Block) (priority : ℕ) (out : List ℕ) → Typed (act block priority out)
     → Agrees S s p (act block priority out) (actOf s block priority out)
 unfolding actOf refusal
 act-agrees S s p t block priority out typed =
     let same = idle-same t in
-    agrees-by S s p t (act block priority out) (actCauses out (idle (s .bench))) (actedOf (over s) block priority out (viewOf (beatOf (s .bench))) (actAt (placeIn (beatOf (s .bench)))))
+    agrees-by S s p t (act block priority out) (actCauses out (idle (s .bench))) (stepBy s (actedNow (coreOf s) block priority out))
     (rw same) (λ e.
     let (short, (i, end)) = passes (actCauses out (idle (s .bench))) e in
-    act-accepted S s p t (not-false (p .gathering) (sym same ∙ i)) block priority (typed .0, typed .1, typed .2) out)
+    act-accepted S (coreOf s) p t (not-false (p .gathering) (sym same ∙ i)) block priority (typed .0, typed .1, typed .2) out)

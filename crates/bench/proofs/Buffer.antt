@@ -26,10 +26,10 @@ use Rattle.agreement.proofs.RecordLaws.{by-short}
 use Rattle.agreement.proofs.GradeSources.{vote-from}
 use Rattle.bench.specs.Layout.{logsPlace, proposalsPlace, mostBytes}
 use Rattle.bench.specs.Calendar.{viewOf, placeIn, Act, proposing, voting, deciding, snapping, actAt}
-use Rattle.bench.specs.Calls.{Reply, refused, done, took, acted, State, Step}
+use Rattle.bench.specs.Calls.{Reply, refused, done, took, acted, State, Core, coreOf, Step}
 use Rattle.bench.specs.Acts.{mayPropose, propose, vote, isView, inViews, makes, outAfter}
 use Rattle.bench.specs.Record.{agreementOf, proposalsOf, beatOf, tooLong, badProposer, anyPlace, beyondProposals, Bench}
-use Rattle.bench.specs.ByRecord.{refuse, begun, beginRows, beginOf, fileMessage, taken, receiveRows, receiveOf, usedOf, seenOf, over, actedOf, actRows, actOf}
+use Rattle.bench.specs.ByRecord.{refuse, stepBy, begun, beginRows, beginOf, fileMessage, taken, receiveRows, receiveOf, usedOf, seenOf, over, actedOf, actedNow, actRows, actOf}
 use Rattle.bench.specs.Tested.{Tested}
 use Rattle.bench.proofs.TestedLaws.{within-limits, long-out}
 use Rattle.bench.proofs.Fine.{no-place}
@@ -45,10 +45,10 @@ madeIn (acted m) = m
 
 -- ---- logs that are read have 64 blocks at the most
 
-lock-short : (s : State) (v : ℕ) (L : Log) → usedOf s v voting ≡ some L → length L ≤ mostBlocks
+lock-short : (s : Core) (v : ℕ) (L : Log) → usedOf s v voting ≡ some L → length L ≤ mostBlocks
 unfolding usedOf
 lock-short s zero L e = subst (λ (M : Log). length M ≤ mostBlocks) (Option·some-injective [] L e) (omega arith)
-lock-short s (suc u) L e = by-short (s .lent .names) (s .lent .counts) (logsPlace u) (agreementOf (s .bench) u) (snapshotAt two (agreementOf (s .bench) u .marks)) L e
+lock-short s (suc u) L e = by-short (s .names) (s .counts) (logsPlace u) (agreementOf (s .bench) u) (snapshotAt two (agreementOf (s .bench) u .marks)) L e
 
 -- the proposals of view v, in a record within its limits
 module _ (b : Bench) (e : beyondProposals (b .n) (b .proposals) ≡ false) where
@@ -87,15 +87,15 @@ module _ (own v : ℕ) where
   in-views-short : (o : Option Meaning) → Short o → Short (inViews v o)
   in-views-short o h = either (isView v) (λ t. rw t h) (λ t. rw t tt)
 
-module _ (s : State) (e : beyondProposals (s .bench .n) (s .bench .proposals) ≡ false) where
+module _ (s : Core) (e : beyondProposals (s .bench .n) (s .bench .proposals) ≡ false) where
   -- the vote is the lock, or a proposal
   chosen-short : (v : ℕ) (L : Log) → length L ≤ mostBlocks → length (seenOf s v voting .choose L) ≤ mostBlocks
   chosen-short v L h =
-      let kept = keptProposal (s .lent .names) (s .lent .counts) proposalsPlace (proposalsOf (s .bench) v) in
+      let kept = keptProposal (s .names) (s .counts) proposalsPlace (proposalsOf (s .bench) v) in
       elim (vote-from mostSenders kept L) [
         | inl q ↦ rw q h
         | inr t ↦
-            let k = kept-length (s .lent .names) (s .lent .counts) proposalsPlace (proposalsOf (s .bench) v) (t .sender) (t .proposal) (t .its) in
+            let k = kept-length (s .names) (s .counts) proposalsPlace (proposalsOf (s .bench) v) (t .sender) (t .proposal) (t .its) in
             let w = proposed-short (s .bench) e v (t .sender) (t .below) in
             rw (t .voted) (omega arith)
       ]
@@ -131,7 +131,7 @@ begin-out s beat =
 pub receive-out : (s : State) (bytes : List ℕ) → receiveOf s bytes .answer .out ≡ []
 unfolding receiveOf
 receive-out s bytes =
-    judged (refuse s []) (taken (fileMessage s bytes (meaningIn bytes))) (λ (r : Step). r .answer .out ≡ [])
+    judged (refuse s []) (stepBy s (taken (fileMessage (coreOf s) bytes (meaningIn bytes)))) (λ (r : Step). r .answer .out ≡ [])
     (receiveRows s bytes)
     (λ k e. refl)
     (λ e. refl)
@@ -146,10 +146,10 @@ module _ (s : State) (block : Block) (priority : ℕ) (out : List ℕ) where
   a = actAt (placeIn (beatOf (s .bench)))
 
   -- what holds of each refused Act, and of what is done
-  by-causes : (P : Step → Type 0) → ((k : ℕ) → P (refuse s out k)) → (Tested s out → P (actedOf (over s) block priority out v a)) → P (actOf s block priority out)
+  by-causes : (P : Step → Type 0) → ((k : ℕ) → P (refuse s out k)) → (Tested (coreOf s) out → P (stepBy s (actedNow (coreOf s) block priority out))) → P (actOf s block priority out)
   unfolding actOf
   by-causes P f g =
-      judged (refuse s out) (actedOf (over s) block priority out v a) P (actRows s out)
+      judged (refuse s out) (stepBy s (actedNow (coreOf s) block priority out)) P (actRows s out)
       (λ k e. f k)
       (λ e.
       let (limits, (lists, (room, rest))) = passes (actRows s out) e in
@@ -166,8 +166,8 @@ module _ (s : State) (block : Block) (priority : ℕ) (out : List ℕ) where
       by-causes (λ (r : Step). Fits out (madeIn (r .answer .reply)))
       (λ k. tt)
       (λ t.
-      fits out (makes (s .bench .own) v block priority (seenOf (over s) v a) a)
-      (makes-short (over s) (within-limits (s .bench) (t .usable .limits) .1) (s .bench .own) v block priority a)
+      fits out (makes (s .bench .own) v block priority (seenOf (over (coreOf s)) v a) a)
+      (makes-short (over (coreOf s)) (within-limits (s .bench) (t .usable .limits) .1) (s .bench .own) v block priority a)
       (long-out t))
 
   -- nothing made, refused or not: the buffer handed in
@@ -191,13 +191,13 @@ module _ (s : State) (block : Block) (priority : ℕ) (out : List ℕ) where
 -- What the buffer holds shows nowhere else: neither in what is made nor in what is held.
 module _ (s : State) (block : Block) (priority : ℕ) (out o : List ℕ) (e : ltb (length out) mostBytes ≡ ltb (length o) mostBytes) where
   same-but : {B : Type 0} (h : Step → B) → ((k : ℕ) → h (refuse s out k) ≡ h (refuse s o k))
-      → ((v : ℕ) (a : Act) → h (actedOf (over s) block priority out v a) ≡ h (actedOf (over s) block priority o v a))
+      → ((v : ℕ) (a : Act) → h (stepBy s (actedOf (over (coreOf s)) block priority out v a)) ≡ h (stepBy s (actedOf (over (coreOf s)) block priority o v a)))
       → h (actOf s block priority out) ≡ h (actOf s block priority o)
   unfolding actOf
   same-but h d f =
       rw e (judged-alike h (actRows s o) (refuse s out) (refuse s o)
-      (actedOf (over s) block priority out (viewOf (beatOf (s .bench))) (actAt (placeIn (beatOf (s .bench)))))
-      (actedOf (over s) block priority o (viewOf (beatOf (s .bench))) (actAt (placeIn (beatOf (s .bench)))))
+      (stepBy s (actedNow (coreOf s) block priority out))
+      (stepBy s (actedNow (coreOf s) block priority o))
       d (f (viewOf (beatOf (s .bench))) (actAt (placeIn (beatOf (s .bench))))))
 
   pub same-reply : actOf s block priority out .answer .reply ≡ actOf s block priority o .answer .reply

@@ -23,11 +23,11 @@ use Rattle.agreement.specs.Proposals.{emptyProposals, Proposals}
 use Rattle.bench.specs.Terms.{Terms, Seat, seatOf}
 use Rattle.bench.specs.Layout.{decidedPlace, leastLent, Lent, shortLists, outOfRange}
 use Rattle.bench.specs.Calendar.{lastBeat}
-use Rattle.bench.specs.Calls.{Call, begin, receive, bufferIn, took, Step, openTo, State}
+use Rattle.bench.specs.Calls.{Call, begin, receive, bufferIn, took, Step, openTo, State, Core, coreOf}
 use Rattle.bench.specs.Causes.{beginCauses, receiveCauses}
 use Rattle.bench.specs.History.{History, fresh, orZero, beatNow, notAbove, refusal, wordFor, accepted, answer, acceptedAnswer, step, standIn}
 use Rattle.bench.specs.Record.{freshBench, ofView, agreementOf, proposalsOf, beatOf, notAboveLast, idle, Bench}
-use Rattle.bench.specs.ByRecord.{refuse, recordCauses, begun, beginOf, fileMessage, taken, receiveOf}
+use Rattle.bench.specs.ByRecord.{refuse, stepBy, recordCauses, begun, beginOf, fileMessage, taken, receiveOf}
 use Rattle.bench.specs.Tested.{Usable}
 use Rattle.bench.proofs.Refusals.{usable-past}
 use Rattle.bench.proofs.TestedLaws.{lists-roomy}
@@ -43,15 +43,15 @@ use Rattle.bench.proofs.FilingTies.{file-tie}
 -- What a call of the record has to do with the history's: the same answer; tied afterwards; and a refusal leaves record and lists.
 pub record Agrees (S : Seat) (s : State) (p : History) (c : Call) (r : Step) : Type 0 where
   pub answered : r .answer ≡ answer S p c
-  pub tied : Tie S (r .held) (step S p c)
+  pub tied : Tie S (coreOf (r .held)) (step S p c)
   pub left : (k : ℕ) → refusal S p c ≡ some k → r .held ≡ s
 
 -- no record tied to a history is beyond its limits or has lists too short
-module _ {S : Seat} {s : State} {p : History} (t : Tie S s p) where
+module _ {S : Seat} {s : Core} {p : History} (t : Tie S s p) where
   usable : Usable s
   usable =
-      let a = le-ltb (length (s .lent .names)) leastLent (t .roomy .names) in
-      let b = le-ltb (length (s .lent .counts)) leastLent (t .roomy .counts) in
+      let a = le-ltb (length (s .names)) leastLent (t .roomy .names) in
+      let b = le-ltb (length (s .counts)) leastLent (t .roomy .counts) in
       record { limits = not-beyond (s .bench) (t .fine); lists = λ i. a i || b i }
 
   -- the beat, and whether a gathering is under way
@@ -81,8 +81,8 @@ module _ {S : Seat} {s : State} {p : History} (t : Tie S s p) where
       go (suc b) e = omega arith
 
 -- A call whose own causes come to what the history's do: both refuse alike, or both accept.
-pub agrees-by : (S : Seat) (s : State) (p : History) (t : Tie S s p) (c : Call) (cs : List Cause) (x : Step) → refusal S p c ≡ firstFailure cs
-    → (firstFailure cs ≡ none → (x .answer ≡ acceptedAnswer S p c) × Tie S (x .held) (accepted S p c))
+pub agrees-by : (S : Seat) (s : State) (p : History) (t : Tie S (coreOf s) p) (c : Call) (cs : List Cause) (x : Step) → refusal S p c ≡ firstFailure cs
+    → (firstFailure cs ≡ none → (x .answer ≡ acceptedAnswer S p c) × Tie S (coreOf (x .held)) (accepted S p c))
     → Agrees S s p c (judgedBy (recordCauses s ++ cs) (refuse s (bufferIn c)) x)
 unfolding step answer
 agrees-by S s p t c cs x same accept =
@@ -107,8 +107,8 @@ above-same s beat = go (s .next)
         (λ e. let l = leb-true beat last e in lt-ltb beat (suc last) (omega arith) ∙ sym e)
         (λ e. let l = leb-false beat last e in le-ltb beat (suc last) (omega arith) ∙ sym e)
 
-module _ (S : Seat) (s : State) (p : History) (t : Tie S s p) (beat : ℕ) where
-  begun-tie : beat ≤ lastBeat → s .bench .next ≤ beat → Tie S (begun s beat .held) (accepted S p (begin beat))
+module _ (S : Seat) (s : State) (p : History) (t : Tie S (coreOf s) p) (beat : ℕ) where
+  begun-tie : beat ≤ lastBeat → s .bench .next ≤ beat → Tie S (coreOf (begun s beat .held)) (accepted S p (begin beat))
   unfolding accepted
   begun-tie low above = record {
     n-is = t .n-is;
@@ -120,10 +120,10 @@ module _ (S : Seat) (s : State) (p : History) (t : Tie S s p) (beat : ℕ) where
     filled =
         record {
           views = λ v i o.
-              subst (λ (g : Agreement). Holds (s .lent) g (accepted S p (begin beat)) v) (sym (begun-open (s .bench) beat v (omega arith)))
+              subst (λ (g : Agreement). Holds (s .lent .names) (s .lent .counts) g (accepted S p (begin beat)) v) (sym (begun-open (s .bench) beat v (omega arith)))
               (holds-same (record { logs = λ j. refl; acts = λ k. refl }) (t .filled .views v i (omega arith)));
           proposals = λ v i o.
-              subst (λ (g : Proposals). HoldsProposals (s .lent) g (accepted S p (begin beat)) v) (sym (begun-proposals-open (s .bench) beat v (omega arith)))
+              subst (λ (g : Proposals). HoldsProposals (s .lent .names) (s .lent .counts) g (accepted S p (begin beat)) v) (sym (begun-proposals-open (s .bench) beat v (omega arith)))
               (t .filled .proposals v i (omega arith));
           since =
               record {
@@ -153,20 +153,20 @@ carries-read n bytes m e = record {
   log = ap (λ (x : Content). x .log) (sym (said-in bytes)) ∙ ap (λ (x : Meaning). logOf x) (read-accepted n bytes m e .1);
 }
 
-module _ (S : Seat) (s : State) (p : History) (t : Tie S s p) (bytes : List ℕ) (typed : AllBelow 256 bytes) where
+module _ (S : Seat) (s : State) (p : History) (t : Tie S (coreOf s) p) (bytes : List ℕ) (typed : AllBelow 256 bytes) where
   taken-tie : p .gathering ≡ true → (m : Meaning) → readOf (S .terms .n) bytes ≡ means m → openTo m (beatOf (s .bench)) ≡ true
-      → (taken (fileMessage s bytes m) .answer ≡ acceptedAnswer S p (receive bytes)) × Tie S (taken (fileMessage s bytes m) .held) (accepted S p (receive bytes))
+      → (taken (fileMessage (coreOf s) bytes m) .answer ≡ acceptedAnswer S p (receive bytes)) × Tie S (taken (fileMessage (coreOf s) bytes m) .core) (accepted S p (receive bytes))
   unfolding acceptedAnswer accepted
   taken-tie g m e w =
-      let x = file-tie S s p t bytes (started t g) m (read-writable (S .terms .n) bytes m typed e) (carries-read (S .terms .n) bytes m e) w in
-      let word : took (fileMessage s bytes m .word) ≡ took (wordFor p m) = ap took (x .0) in
+      let x = file-tie S (coreOf s) p t bytes (started t g) m (read-writable (S .terms .n) bytes m typed e) (carries-read (S .terms .n) bytes m e) w in
+      let word : took (fileMessage (coreOf s) bytes m .word) ≡ took (wordFor p m) = ap took (x .0) in
       (rw e (λ i. record { reply = word i; out = [] }), rw e (x .1))
 
   pub receive-agrees : Agrees S s p (receive bytes) (receiveOf s bytes)
   unfolding receiveOf refusal
   receive-agrees =
       let same = idle-same t in
-      agrees-by S s p t (receive bytes) (receiveCauses (idle (s .bench)) (s .bench .n) (beatOf (s .bench)) bytes) (taken (fileMessage s bytes (meaningIn bytes)))
+      agrees-by S s p t (receive bytes) (receiveCauses (idle (s .bench)) (s .bench .n) (beatOf (s .bench)) bytes) (stepBy s (taken (fileMessage (coreOf s) bytes (meaningIn bytes))))
       (rw (same, t .n-is, beat-same t)) (λ e.
       let (i, rest) = passes (receiveCauses (idle (s .bench)) (s .bench .n) (beatOf (s .bench)) bytes) e in
       let (reads, (shut, end)) = passes-each (readCauses (s .bench .n) bytes) (by 21 (not (openTo (meaningIn bytes) (beatOf (s .bench)))) ∷ []) rest in
@@ -176,10 +176,10 @@ module _ (S : Seat) (s : State) (p : History) (t : Tie S s p) (bytes : List ℕ)
 -- ---- Open
 
 pub open-tie : (T : Terms) (own : ℕ) (l : Lent) → outOfRange (T .n) own ≡ false → shortLists l ≡ false → AllBelow (2 ^ 64) (l .names) → AllBelow (2 ^ 16) (l .counts)
-    → Tie (seatOf T own) (record { bench = freshBench (T .n) own; lent = l }) (fresh (seatOf T own))
+    → Tie (seatOf T own) (record { bench = freshBench (T .n) own; names = l .names; counts = l .counts }) (fresh (seatOf T own))
 unfolding standIn agreementOf proposalsOf
 open-tie T own l r h names counts =
-    let long = lists-roomy l h in
+    let long = lists-roomy (l .names) (l .counts) h in
     let since : Since 0 (fresh (seatOf T own)) = record { logs = λ m i. absurd (List·Memᴰ·not-nil i); proposals = λ m i. absurd (List·Memᴰ·not-nil i); acts = λ d i. absurd (List·Memᴰ·not-nil i) } in
     record {
       n-is = refl;
@@ -196,8 +196,8 @@ open-tie T own l r h names counts =
       gathering-is = refl;
       filled =
           record {
-            views = λ v i o. subst (λ (g : Agreement). Holds l g (fresh (seatOf T own)) v) (sym (fresh-agreement v)) (empty-holds since v l (omega arith));
-            proposals = λ v i o. subst (λ (g : Proposals). HoldsProposals l g (fresh (seatOf T own)) v) (sym (fresh-proposals v)) (empty-proposals-holds since v l (omega arith));
+            views = λ v i o. subst (λ (g : Agreement). Holds (l .names) (l .counts) g (fresh (seatOf T own)) v) (sym (fresh-agreement v)) (empty-holds since v (l .names) (l .counts) (omega arith));
+            proposals = λ v i o. subst (λ (g : Proposals). HoldsProposals (l .names) (l .counts) g (fresh (seatOf T own)) v) (sym (fresh-proposals v)) (empty-proposals-holds since v (l .names) (l .counts) (omega arith));
             since = since;
           };
       stand-is = let e = log-empty (l .names) (l .counts) decidedPlace 0 (omega arith) in λ i. record { log = e i; parted = false };

@@ -9,7 +9,7 @@ use lib.Dec.{leb}
 use Rattle.message.specs.Message.{Meaning, logMessage, proposalMessage, logOf, WritableMeaning}
 use Rattle.bench.specs.Terms.{Seat}
 use Rattle.bench.specs.Calendar.{viewBeat, inputBeat, closeBeat}
-use Rattle.bench.specs.Calls.{openTo, State}
+use Rattle.bench.specs.Calls.{openTo, Core}
 use Rattle.bench.specs.History.{History, file, wordFor}
 use Rattle.bench.specs.Record.{beatOf}
 use Rattle.bench.specs.ByRecord.{fileMessage}
@@ -25,7 +25,7 @@ in-window first last beat next e h w =
     let y = leb-true beat last (a .1) in
     (omega arith, omega arith)
 
-module _ (S : Seat) (s : State) (p : History) (t : Tie S s p) (bytes : List ℕ) (started : 0 < s .bench .next) where
+module _ (S : Seat) (s : Core) (p : History) (t : Tie S s p) (bytes : List ℕ) (started : 0 < s .bench .next) where
   pub file-tie : (m : Meaning) → WritableMeaning (S .terms .n) m → Carries bytes (logOf m) → openTo m (beatOf (s .bench)) ≡ true
       → (fileMessage s bytes m .word ≡ wordFor p m) × Tie S (fileMessage s bytes m .held) (file p m)
   unfolding fileMessage

@@ -4,6 +4,7 @@ use Prim.Native.Nat.{ℕ, _+_, _≤_, _<_}
 use native.Mathlib.Decide.{ℕ-discrete}
 use native.Mathlib.Omega.{arith}
 use mathlib.Core.Bool.{Bool-discrete}
+use mathlib.Core.List.{List}
 use mathlib.Core.Logic.{inl, inr}
 use mathlib.Core.Option.{none}
 use mathlib.Core.Path.{_≡_, sym, ap, subst, _∙_}
@@ -15,7 +16,7 @@ use Rattle.agreement.specs.Proposals.{emptyProposals, Proposals}
 use Rattle.agreement.specs.Heard.{heardLogs, heardProposals}
 use Rattle.agreement.proofs.ElsewhereLaws.{Apart, Elsewhere, kept-elsewhere, proposal-kept-elsewhere}
 use Rattle.agreement.proofs.KeptOfLaws.{heard-no-view, proposals-no-view}
-use Rattle.bench.specs.Layout.{isEven, logsPlace, proposalsPlace, decidedPlace, Lent}
+use Rattle.bench.specs.Layout.{isEven, logsPlace, proposalsPlace, decidedPlace}
 use Rattle.bench.specs.Calendar.{lastView, viewBeat, inputBeat, snapshotBeat, closeBeat}
 use Rattle.bench.specs.History.{History, heardAt, snapshotOf}
 use Rattle.bench.specs.Record.{agreementOf, withAgreement, proposalsOf, withProposals, Bench}
@@ -37,23 +38,23 @@ logs-apart u v h =
 
 -- ---- lists that changed elsewhere
 
-module _ {n b w : ℕ} {l k : Lent} (d : Elsewhere b w (l .names) (l .counts) (k .names) (k .counts)) where
-  pub holds-elsewhere : (g : Agreement) (p : History) (v : ℕ) → n ≤ mostSenders → FineAgreement n g → Apart (logsPlace v) span b w → Holds l g p v → Holds k g p v
+module _ {n b w : ℕ} {ns cs ns′ cs′ : List ℕ} (d : Elsewhere b w ns cs ns′ cs′) where
+  pub holds-elsewhere : (g : Agreement) (p : History) (v : ℕ) → n ≤ mostSenders → FineAgreement n g → Apart (logsPlace v) span b w → Holds ns cs g p v → Holds ns′ cs′ g p v
   holds-elsewhere g p v m f far h = record {
     logs = λ i. kept-elsewhere d (logsPlace v) far g (λ j. f .sender j .short) i (λ e. f .sender i .no-voter (omega arith)) ∙ h .logs i;
     snapshots = h .snapshots;
   }
 
   pub proposals-elsewhere : (g : Proposals) (p : History) (v : ℕ) → n ≤ mostSenders → FineProposals n g → Apart proposalsPlace span b w
-      → HoldsProposals l g p v → HoldsProposals k g p v
+      → HoldsProposals ns cs g p v → HoldsProposals ns′ cs′ g p v
   proposals-elsewhere g p v m f far h i =
       proposal-kept-elsewhere d proposalsPlace far g (λ j. f .proposer j .short) i (λ e. f .proposer i .not-filed (omega arith)) ∙ h i
 
 -- ---- the decided log is written
 
-pub filled-decided : {b : Bench} {l k : Lent} {p : History} → Fine b → Elsewhere decidedPlace mostBlocks (l .names) (l .counts) (k .names) (k .counts)
-    → Filled b l p → Filled b k p
-filled-decided {b} {l} {k} {p} f d h = record {
+pub filled-decided : {b : Bench} {ns cs ns′ cs′ : List ℕ} {p : History} → Fine b → Elsewhere decidedPlace mostBlocks ns cs ns′ cs′
+    → Filled b ns cs p → Filled b ns′ cs′ p
+filled-decided {b} {p = p} f d h = record {
   views = λ v i o. let a = logs-low v in holds-elsewhere d (agreementOf b v) p v (f .few) (agreement-fine b v i f) (inl (omega arith)) (h .views v i o);
   proposals = λ v i o. proposals-elsewhere d (proposalsOf b v) p v (f .few) (proposals-fine b v i f) (inl (omega arith)) (h .proposals v i o);
   since = h .since;
@@ -65,7 +66,7 @@ pub record SameView (p q : History) (u : ℕ) : Type 0 where
   pub logs : (i : ℕ) → heardLogs (q .heard) u i ≡ heardLogs (p .heard) u i
   pub acts : (k : SnapshotNumber) → heardAt (q .actions) (snapshotBeat k u) ≡ heardAt (p .actions) (snapshotBeat k u)
 
-pub holds-same : {l : Lent} {g : Agreement} {p q : History} {u : ℕ} → SameView p q u → Holds l g p u → Holds l g q u
+pub holds-same : {ns cs : List ℕ} {g : Agreement} {p q : History} {u : ℕ} → SameView p q u → Holds ns cs g p u → Holds ns cs g q u
 holds-same {u = u} s h = record {
   logs = λ i. h .logs i ∙ sym (s .logs i);
   snapshots = λ k. h .snapshots k ∙ ap (snapshotOf u) (sym (s .acts k));
@@ -75,59 +76,59 @@ holds-same {u = u} s h = record {
 
 module _ {next : ℕ} {p : History} (since : Since next p) (u : ℕ) where
   -- so the empty agreement holds all of it
-  pub empty-holds : (l : Lent) → next ≤ inputBeat u → Holds l (emptyAgreement u) p u
-  empty-holds l o =
+  pub empty-holds : (ns cs : List ℕ) → next ≤ inputBeat u → Holds ns cs (emptyAgreement u) p u
+  empty-holds ns cs o =
       let none-at : (c : ℕ) → next ≤ c → none ≡ snapshotOf u (heardAt (p .actions) c) =
       λ c e. ap (snapshotOf u) (sym (no-act (p .actions) c (λ d i. let k = since .acts d i in omega arith))) in
       record {
-        logs = λ i. empty-kept (l .names) (l .counts) (logsPlace u) u i ∙ sym (heard-no-view (p .heard) u i (λ m j e. let k = since .logs m j in omega arith));
+        logs = λ i. empty-kept ns cs (logsPlace u) u i ∙ sym (heard-no-view (p .heard) u i (λ m j e. let k = since .logs m j in omega arith));
         snapshots = λ (k : SnapshotNumber). elim k [
           | one ↦ none-at (snapshotBeat one u) (omega arith)
           | two ↦ none-at (snapshotBeat two u) (omega arith)
         ];
       }
 
-  pub empty-proposals-holds : (l : Lent) → next ≤ viewBeat u → HoldsProposals l (emptyProposals u) p u
-  empty-proposals-holds l o i =
-      empty-proposal-kept (l .names) (l .counts) proposalsPlace u i
+  pub empty-proposals-holds : (ns cs : List ℕ) → next ≤ viewBeat u → HoldsProposals ns cs (emptyProposals u) p u
+  empty-proposals-holds ns cs o i =
+      empty-proposal-kept ns cs proposalsPlace u i
       ∙ sym (proposals-no-view (p .proposals) u i (λ m j e. let k = since .proposals m j in omega arith))
 
 -- ---- the agreement of an open view changes, and the history with it
 
-module _ {b : Bench} {l k : Lent} {p q : History} (f : Fine b) (h : Filled b l p) (v : ℕ) (late : inputBeat v < b .next) (soon : b .next ≤ closeBeat v + 1)
-    (lists : Elsewhere (logsPlace v) span (l .names) (l .counts) (k .names) (k .counts)) (g : Agreement) (view : g .marks .view ≡ v)
-    (here : Holds k g q v) (there : (u : ℕ) → (u ≡ v → ⊥) → u ≤ lastView → SameView p q u) where
+module _ {b : Bench} {ns cs ns′ cs′ : List ℕ} {p q : History} (f : Fine b) (h : Filled b ns cs p) (v : ℕ) (late : inputBeat v < b .next) (soon : b .next ≤ closeBeat v + 1)
+    (lists : Elsewhere (logsPlace v) span ns cs ns′ cs′) (g : Agreement) (view : g .marks .view ≡ v)
+    (here : Holds ns′ cs′ g q v) (there : (u : ℕ) → (u ≡ v → ⊥) → u ≤ lastView → SameView p q u) where
   -- another view of the parity is shut, or its time has not come
-  beside-holds : (u : ℕ) → (u ≡ v → ⊥) → isEven u ≡ isEven v → u ≤ lastView → b .next ≤ closeBeat u + 1 → Holds k (emptyAgreement u) q u
+  beside-holds : (u : ℕ) → (u ≡ v → ⊥) → isEven u ≡ isEven v → u ≤ lastView → b .next ≤ closeBeat u + 1 → Holds ns′ cs′ (emptyAgreement u) q u
   beside-holds u d e i o = elim (parity-apart u v e d) [
     | inl y ↦ absurd (omega arith)
-    | inr y ↦ holds-same (there u d i) (empty-holds (h .since) u k (omega arith))
+    | inr y ↦ holds-same (there u d i) (empty-holds (h .since) u ns′ cs′ (omega arith))
   ]
 
-  across-holds : (u : ℕ) → (u ≡ v → ⊥) → (isEven u ≡ isEven v → ⊥) → u ≤ lastView → b .next ≤ closeBeat u + 1 → Holds k (agreementOf b u) q u
+  across-holds : (u : ℕ) → (u ≡ v → ⊥) → (isEven u ≡ isEven v → ⊥) → u ≤ lastView → b .next ≤ closeBeat u + 1 → Holds ns′ cs′ (agreementOf b u) q u
   across-holds u d e i o =
       holds-same (there u d i) (holds-elsewhere lists (agreementOf b u) p u (f .few) (agreement-fine b u i f) (logs-apart u v e) (h .views u i o))
 
-  pub agreement-views : (u : ℕ) → u ≤ lastView → b .next ≤ closeBeat u + 1 → Holds k (agreementOf (withAgreement b v g) u) q u
+  pub agreement-views : (u : ℕ) → u ≤ lastView → b .next ≤ closeBeat u + 1 → Holds ns′ cs′ (agreementOf (withAgreement b v g) u) q u
   agreement-views u i o = elim (ℕ-discrete u v) [
-    | yes e ↦ subst (λ (x : ℕ). Holds k (agreementOf (withAgreement b v g) x) q x) (sym e) (subst (λ (a : Agreement). Holds k a q v) (sym (changed-own b v g view)) here)
+    | yes e ↦ subst (λ (x : ℕ). Holds ns′ cs′ (agreementOf (withAgreement b v g) x) q x) (sym e) (subst (λ (a : Agreement). Holds ns′ cs′ a q v) (sym (changed-own b v g view)) here)
     | no d ↦ elim (Bool-discrete (isEven u) (isEven v)) [
-      | yes e ↦ subst (λ (a : Agreement). Holds k a q u) (sym (changed-beside b v g view u d e)) (beside-holds u d e i o)
-      | no e ↦ subst (λ (a : Agreement). Holds k a q u) (sym (changed-across b v g u e)) (across-holds u d e i o)
+      | yes e ↦ subst (λ (a : Agreement). Holds ns′ cs′ a q u) (sym (changed-beside b v g view u d e)) (beside-holds u d e i o)
+      | no e ↦ subst (λ (a : Agreement). Holds ns′ cs′ a q u) (sym (changed-across b v g u e)) (across-holds u d e i o)
     ]
   ]
 
 -- ---- the proposals change
 
-pub proposals-views : {b : Bench} {l : Lent} {p : History} (k : Lent) (q : History) → Filled b l p → (v : ℕ) → viewBeat v < b .next → b .next ≤ inputBeat v + 1
-    → (g : Proposals) → g .marks .view ≡ v → HoldsProposals k g q v
+pub proposals-views : {b : Bench} {ns cs : List ℕ} {p : History} (ns′ cs′ : List ℕ) (q : History) → Filled b ns cs p → (v : ℕ) → viewBeat v < b .next → b .next ≤ inputBeat v + 1
+    → (g : Proposals) → g .marks .view ≡ v → HoldsProposals ns′ cs′ g q v
     → ((u : ℕ) → (u ≡ v → ⊥) → (i : ℕ) → heardProposals (q .proposals) u i ≡ heardProposals (p .proposals) u i)
-    → (u : ℕ) → b .next ≤ inputBeat u + 1 → HoldsProposals k (proposalsOf (withProposals b g) u) q u
-proposals-views {b} {l} {p} k q h v late soon g view here there u o = elim (ℕ-discrete u v) [
+    → (u : ℕ) → b .next ≤ inputBeat u + 1 → HoldsProposals ns′ cs′ (proposalsOf (withProposals b g) u) q u
+proposals-views {b} {p = p} ns′ cs′ q h v late soon g view here there u o = elim (ℕ-discrete u v) [
   | yes e ↦
-      subst (λ (x : ℕ). HoldsProposals k (proposalsOf (withProposals b g) x) q x) (sym e)
-      (subst (λ (a : Proposals). HoldsProposals k a q v) (sym (proposals-own b v g view)) here)
+      subst (λ (x : ℕ). HoldsProposals ns′ cs′ (proposalsOf (withProposals b g) x) q x) (sym e)
+      (subst (λ (a : Proposals). HoldsProposals ns′ cs′ a q v) (sym (proposals-own b v g view)) here)
   | no d ↦
-      subst (λ (a : Proposals). HoldsProposals k a q u) (sym (proposals-beside b v g u view d))
-      (λ i. empty-proposals-holds (h .since) u k (omega arith) i ∙ sym (there u d i))
+      subst (λ (a : Proposals). HoldsProposals ns′ cs′ a q u) (sym (proposals-beside b v g u view d))
+      (λ i. empty-proposals-holds (h .since) u ns′ cs′ (omega arith) i ∙ sym (there u d i))
 ]

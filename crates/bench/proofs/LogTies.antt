@@ -22,8 +22,8 @@ use Rattle.agreement.proofs.KeptLaws.{file-word, file-kept, file-apart, file-re
 use Rattle.agreement.proofs.ElsewhereLaws.{Elsewhere, file-elsewhere}
 use Rattle.agreement.proofs.KeptOfLaws.{heard-same, heard-other}
 use Rattle.bench.specs.Terms.{Seat}
-use Rattle.bench.specs.Calls.{State}
-use Rattle.bench.specs.Layout.{logsPlace, decidedPlace, Lent}
+use Rattle.bench.specs.Calls.{Core}
+use Rattle.bench.specs.Layout.{logsPlace, decidedPlace}
 use Rattle.bench.specs.Calendar.{lastView, inputBeat, closeBeat}
 use Rattle.bench.specs.History.{History, file, wordFor}
 use Rattle.bench.specs.Record.{agreementOf, proposalsOf, withAgreement, Bench}
@@ -43,8 +43,8 @@ pub record Carries (bytes : List ℕ) (L : Log) : Type 0 where
 
 -- ---- lists that changed elsewhere than at the decided log
 
-module _ {b w : ℕ} {l k : Lent} (d : Elsewhere b w (l .names) (l .counts) (k .names) (k .counts)) where
-  pub roomy-elsewhere : Roomy l → Roomy k
+module _ {b w : ℕ} {ns cs ns′ cs′ : List ℕ} (d : Elsewhere b w ns cs ns′ cs′) where
+  pub roomy-elsewhere : Roomy ns cs → Roomy ns′ cs′
   roomy-elsewhere r =
       let a = d .name-length in
       let c = d .count-length in
@@ -54,7 +54,7 @@ module _ {b w : ℕ} {l k : Lent} (d : Elsewhere b w (l .names) (l .counts) (k .
 
 -- ---- a LOG
 
-module _ (S : Seat) (s : State) (p : History) (t : Tie S s p) (bytes : List ℕ) (m : Content) (good : Writable (S .terms .n) m) (c : Carries bytes (m .log))
+module _ (S : Seat) (s : Core) (p : History) (t : Tie S s p) (bytes : List ℕ) (m : Content) (good : Writable (S .terms .n) m) (c : Carries bytes (m .log))
     (late : inputBeat (m .view) < s .bench .next) (soon : s .bench .next ≤ closeBeat (m .view) + 1) where
   abbrev b : Bench
   b = s .bench
@@ -63,15 +63,12 @@ module _ (S : Seat) (s : State) (p : History) (t : Tie S s p) (bytes : List ℕ)
   g = agreementOf b (m .view)
 
   abbrev r : Filing
-  r = fileOf g (s .lent .names) (s .lent .counts) (logsPlace (m .view)) bytes (m .sender)
-
-  abbrev k : Lent
-  k = record { names = r .names; counts = r .counts }
+  r = fileOf g (s .names) (s .counts) (logsPlace (m .view)) bytes (m .sender)
 
   abbrev q : History
   q = file p (logMessage m)
 
-  fits : Fit (s .lent .names) (s .lent .counts) (logsPlace (m .view)) bytes (m .sender)
+  fits : Fit (s .names) (s .counts) (logsPlace (m .view)) bytes (m .sender)
   fits =
       let a = good .sender in
       let d = t .fine .few in
@@ -84,14 +81,14 @@ module _ (S : Seat) (s : State) (p : History) (t : Tie S s p) (bytes : List ℕ)
   fine-here : FineAgreement (b .n) g
   fine-here = agreement-fine b (m .view) (good .view) (t .fine)
 
-  elsewhere : Elsewhere (logsPlace (m .view)) span (s .lent .names) (s .lent .counts) (r .names) (r .counts)
+  elsewhere : Elsewhere (logsPlace (m .view)) span (s .names) (s .counts) (r .names) (r .counts)
   elsewhere =
-      file-elsewhere (s .lent .names) (s .lent .counts) (logsPlace (m .view)) bytes (m .sender) fits
+      file-elsewhere (s .names) (s .counts) (logsPlace (m .view)) bytes (m .sender) fits
       (subst (λ (L : Log). AllBelow (2 ^ 64) (namesOf L)) (sym (c .log)) (good .names))
       (subst (λ (L : Log). AllBelow (2 ^ 16) (countsOf L)) (sym (c .log)) (good .counts)) g
 
   -- what the record held of the view
-  before : Holds (s .lent) g p (m .view)
+  before : Holds (s .names) (s .counts) g p (m .view)
   before = t .filled .views (m .view) (good .view) soon
 
   pub log-word : r .word ≡ wordFor p (logMessage m)
@@ -99,15 +96,15 @@ module _ (S : Seat) (s : State) (p : History) (t : Tie S s p) (bytes : List ℕ)
   log-word =
       let e = before .logs (m .sender) in
       let f = c .log in
-      file-word g (s .lent .names) (s .lent .counts) (logsPlace (m .view)) bytes (m .sender) fits ∙ (λ i. wordOn sameLog (e i) (f i))
+      file-word g (s .names) (s .counts) (logsPlace (m .view)) bytes (m .sender) fits ∙ (λ i. wordOn sameLog (e i) (f i))
 
-  holds-now : Holds k (r .agreement) q (m .view)
+  holds-now : Holds (r .names) (r .counts) (r .agreement) q (m .view)
   unfolding file
   holds-now = record {
     logs = λ j. elim (ℕ-discrete j (m .sender)) [
       | yes x ↦ subst (λ (i : ℕ). keptLog (r .names) (r .counts) (logsPlace (m .view)) (r .agreement) i ≡ heardLogs (m ∷ p .heard) (m .view) i) (sym x) own-log
       | no x ↦
-          file-apart g (s .lent .names) (s .lent .counts) (logsPlace (m .view)) bytes (m .sender) fits j x (fine-here .sender j .short)
+          file-apart g (s .names) (s .counts) (logsPlace (m .view)) bytes (m .sender) fits j x (fine-here .sender j .short)
           ∙ before .logs j
           ∙ sym (heard-other (p .heard) m (m .view) j (inr x))
     ];
@@ -118,13 +115,13 @@ module _ (S : Seat) (s : State) (p : History) (t : Tie S s p) (bytes : List ℕ)
   }
     where
       rest : SameRest g (r .agreement)
-      rest = file-rest g (s .lent .names) (s .lent .counts) (logsPlace (m .view)) bytes (m .sender)
+      rest = file-rest g (s .names) (s .counts) (logsPlace (m .view)) bytes (m .sender)
 
       own-log : keptLog (r .names) (r .counts) (logsPlace (m .view)) (r .agreement) (m .sender) ≡ heardLogs (m ∷ p .heard) (m .view) (m .sender)
       own-log =
           let e = before .logs (m .sender) in
           let f = c .log in
-          file-kept g (s .lent .names) (s .lent .counts) (logsPlace (m .view)) bytes (m .sender) fits (fine-here .sized .filed)
+          file-kept g (s .names) (s .counts) (logsPlace (m .view)) bytes (m .sender) fits (fine-here .sized .filed)
           ∙ (λ i. keep sameLog (e i) (f i))
           ∙ sym (heard-same (p .heard) m)
 
@@ -133,12 +130,12 @@ module _ (S : Seat) (s : State) (p : History) (t : Tie S s p) (bytes : List ℕ)
   same-there u d i = record { logs = λ j. heard-other (p .heard) m u j (inl d); acts = λ k. refl }
 
   view-now : r .agreement .marks .view ≡ m .view
-  view-now = file-rest g (s .lent .names) (s .lent .counts) (logsPlace (m .view)) bytes (m .sender) .view ∙ agreement-view b (m .view)
+  view-now = file-rest g (s .names) (s .counts) (logsPlace (m .view)) bytes (m .sender) .view ∙ agreement-view b (m .view)
 
   abbrev b′ : Bench
   b′ = withAgreement b (m .view) (r .agreement)
 
-  filled-now : Filled b′ k q
+  filled-now : Filled b′ (r .names) (r .counts) q
   unfolding file
   filled-now =
       let e = agreement-rest b (m .view) (r .agreement) in
@@ -146,7 +143,7 @@ module _ (S : Seat) (s : State) (p : History) (t : Tie S s p) (bytes : List ℕ)
       record {
         views = λ u i o. agreement-views (t .fine) (t .filled) (m .view) late soon elsewhere (r .agreement) view-now holds-now same-there u i (omega arith);
         proposals = λ u i o.
-            subst (λ (z : Proposals). HoldsProposals k z q u) (sym (changed-proposals b (m .view) (r .agreement) u))
+            subst (λ (z : Proposals). HoldsProposals (r .names) (r .counts) z q u) (sym (changed-proposals b (m .view) (r .agreement) u))
             (let z = logs-low (m .view) in
             proposals-elsewhere elsewhere (proposalsOf b u) p u (t .fine .few) (proposals-fine b u i (t .fine)) (inr (omega arith)) (t .filled .proposals u i (omega arith)));
         since =
@@ -161,7 +158,7 @@ module _ (S : Seat) (s : State) (p : History) (t : Tie S s p) (bytes : List ℕ)
       }
 
   -- record and history are tied after it
-  pub log-tie : Tie S (record { bench = b′; lent = k }) q
+  pub log-tie : Tie S (record { bench = b′; names = r .names; counts = r .counts }) q
   unfolding file
   log-tie =
       let e = agreement-rest b (m .view) (r .agreement) in
@@ -175,7 +172,7 @@ module _ (S : Seat) (s : State) (p : History) (t : Tie S s p) (bytes : List ℕ)
       record {
         n-is = e .n ∙ t .n-is;
         own-is = e .own ∙ t .own-is;
-        fine = with-agreement-fine b (t .fine) (m .view) (r .agreement) (file-fine (b .n) g fine-here (s .lent .names) (s .lent .counts) (logsPlace (m .view)) bytes (m .sender) (let a = good .sender in let d = t .n-is in omega arith));
+        fine = with-agreement-fine b (t .fine) (m .view) (r .agreement) (file-fine (b .n) g fine-here (s .names) (s .counts) (logsPlace (m .view)) bytes (m .sender) (let a = good .sender in let d = t .n-is in omega arith));
         roomy = roomy-elsewhere elsewhere (t .roomy);
         last-is = ap lastOf nx ∙ t .last-is;
         gathering-is = (λ i. not (not (isYes (ga i)) || eqb (nx i) 0)) ∙ t .gathering-is;

@@ -19,8 +19,8 @@ use Rattle.agreement.proofs.KeptLaws.{proposal-word, proposal-kept, proposal-ap
 use Rattle.agreement.proofs.ElsewhereLaws.{Elsewhere, proposal-elsewhere}
 use Rattle.agreement.proofs.KeptOfLaws.{proposals-same, proposals-other}
 use Rattle.bench.specs.Terms.{Seat}
-use Rattle.bench.specs.Calls.{State}
-use Rattle.bench.specs.Layout.{proposalsPlace, decidedPlace, Lent}
+use Rattle.bench.specs.Calls.{Core}
+use Rattle.bench.specs.Layout.{proposalsPlace, decidedPlace}
 use Rattle.bench.specs.Calendar.{viewBeat, inputBeat}
 use Rattle.bench.specs.History.{History, file, wordFor}
 use Rattle.bench.specs.Record.{agreementOf, proposalsOf, withProposals, Bench}
@@ -34,7 +34,7 @@ use Rattle.bench.proofs.Ties.{HoldsProposals, Filled, Tie}
 use Rattle.bench.proofs.LogTies.{Carries, roomy-elsewhere}
 use Rattle.bench.proofs.Filling.{logs-low, holds-same, holds-elsewhere, proposals-views}
 
-module _ (S : Seat) (s : State) (p : History) (t : Tie S s p) (bytes : List ℕ) (m : Content) (priority : ℕ) (good : Writable (S .terms .n) m) (small : priority < 2 ^ 64)
+module _ (S : Seat) (s : Core) (p : History) (t : Tie S s p) (bytes : List ℕ) (m : Content) (priority : ℕ) (good : Writable (S .terms .n) m) (small : priority < 2 ^ 64)
     (c : Carries bytes (m .log)) (late : viewBeat (m .view) < s .bench .next) (soon : s .bench .next ≤ inputBeat (m .view) + 1) where
   abbrev bench : Bench
   bench = s .bench
@@ -43,10 +43,7 @@ module _ (S : Seat) (s : State) (p : History) (t : Tie S s p) (bytes : List ℕ)
   filed = proposalsOf bench (m .view)
 
   abbrev after : ProposalFiling
-  after = fileProposalOf filed (s .lent .names) (s .lent .counts) proposalsPlace bytes (m .sender) priority
-
-  abbrev lists : Lent
-  lists = record { names = after .names; counts = after .counts }
+  after = fileProposalOf filed (s .names) (s .counts) proposalsPlace bytes (m .sender) priority
 
   abbrev heard : ProposalHeard
   heard = record { content = m; priority = priority }
@@ -54,7 +51,7 @@ module _ (S : Seat) (s : State) (p : History) (t : Tie S s p) (bytes : List ℕ)
   abbrev then : History
   then = file p (proposalMessage m priority)
 
-  proposal-fits : Fit (s .lent .names) (s .lent .counts) proposalsPlace bytes (m .sender)
+  proposal-fits : Fit (s .names) (s .counts) proposalsPlace bytes (m .sender)
   proposal-fits =
       let a = good .sender in
       let d = t .fine .few in
@@ -66,13 +63,13 @@ module _ (S : Seat) (s : State) (p : History) (t : Tie S s p) (bytes : List ℕ)
   fine-filed : FineProposals (bench .n) filed
   fine-filed = proposals-fine bench (m .view) (good .view) (t .fine)
 
-  lists-elsewhere : Elsewhere proposalsPlace span (s .lent .names) (s .lent .counts) (after .names) (after .counts)
+  lists-elsewhere : Elsewhere proposalsPlace span (s .names) (s .counts) (after .names) (after .counts)
   lists-elsewhere =
-      proposal-elsewhere (s .lent .names) (s .lent .counts) proposalsPlace bytes (m .sender) proposal-fits
+      proposal-elsewhere (s .names) (s .counts) proposalsPlace bytes (m .sender) proposal-fits
       (subst (λ (L : Log). AllBelow (2 ^ 64) (namesOf L)) (sym (c .log)) (good .names))
       (subst (λ (L : Log). AllBelow (2 ^ 16) (countsOf L)) (sym (c .log)) (good .counts)) filed priority
 
-  held : HoldsProposals (s .lent) filed p (m .view)
+  held : HoldsProposals (s .names) (s .counts) filed p (m .view)
   held = t .filled .proposals (m .view) (good .view) soon
 
   -- what is sent, in the bytes and in the message
@@ -84,15 +81,15 @@ module _ (S : Seat) (s : State) (p : History) (t : Tie S s p) (bytes : List ℕ)
   proposal-word-tie =
       let e = held (m .sender) in
       let f = sent in
-      proposal-word filed (s .lent .names) (s .lent .counts) proposalsPlace bytes (m .sender) priority proposal-fits ∙ (λ i. wordOn sameProposal (e i) (f i))
+      proposal-word filed (s .names) (s .counts) proposalsPlace bytes (m .sender) priority proposal-fits ∙ (λ i. wordOn sameProposal (e i) (f i))
 
-  holds-then : HoldsProposals lists (after .proposals) then (m .view)
+  holds-then : HoldsProposals (after .names) (after .counts) (after .proposals) then (m .view)
   unfolding file
   holds-then j = elim (ℕ-discrete j (m .sender)) [
     | yes x ↦
         subst (λ (i : ℕ). keptProposal (after .names) (after .counts) proposalsPlace (after .proposals) i ≡ heardProposals (heard ∷ p .proposals) (m .view) i) (sym x) own-proposal
     | no x ↦
-        proposal-apart filed (s .lent .names) (s .lent .counts) proposalsPlace bytes (m .sender) priority proposal-fits j x (fine-filed .proposer j .short)
+        proposal-apart filed (s .names) (s .counts) proposalsPlace bytes (m .sender) priority proposal-fits j x (fine-filed .proposer j .short)
         ∙ held j
         ∙ sym (proposals-other (p .proposals) heard (m .view) j (inr x))
   ]
@@ -101,11 +98,11 @@ module _ (S : Seat) (s : State) (p : History) (t : Tie S s p) (bytes : List ℕ)
       own-proposal =
           let e = held (m .sender) in
           let f = sent in
-          proposal-kept filed (s .lent .names) (s .lent .counts) proposalsPlace bytes (m .sender) priority proposal-fits (fine-filed .sized)
+          proposal-kept filed (s .names) (s .counts) proposalsPlace bytes (m .sender) priority proposal-fits (fine-filed .sized)
           ∙ (λ i. keep sameProposal (e i) (f i))
           ∙ sym (proposals-same (p .proposals) heard)
 
-  filled-then : Filled (withProposals bench (after .proposals)) lists then
+  filled-then : Filled (withProposals bench (after .proposals)) (after .names) (after .counts) then
   unfolding file agreementOf
   filled-then = record {
     views = λ u i o.
@@ -113,8 +110,8 @@ module _ (S : Seat) (s : State) (p : History) (t : Tie S s p) (bytes : List ℕ)
         holds-same (record { logs = λ j. refl; acts = λ k. refl })
         (holds-elsewhere lists-elsewhere (agreementOf bench u) p u (t .fine .few) (agreement-fine bench u i (t .fine)) (inl (omega arith)) (t .filled .views u i o));
     proposals = λ u i o.
-        proposals-views lists then (t .filled) (m .view) late soon (after .proposals)
-        (proposal-view filed (s .lent .names) (s .lent .counts) proposalsPlace bytes (m .sender) priority ∙ proposals-view bench (m .view))
+        proposals-views (after .names) (after .counts) then (t .filled) (m .view) late soon (after .proposals)
+        (proposal-view filed (s .names) (s .counts) proposalsPlace bytes (m .sender) priority ∙ proposals-view bench (m .view))
         holds-then (λ x d j. proposals-other (p .proposals) heard x j (inl d)) u o;
     since =
         record {
@@ -127,7 +124,7 @@ module _ (S : Seat) (s : State) (p : History) (t : Tie S s p) (bytes : List ℕ)
         };
   }
 
-  pub proposal-tie : Tie S (record { bench = withProposals bench (after .proposals); lent = lists }) then
+  pub proposal-tie : Tie S (record { bench = withProposals bench (after .proposals); names = after .names; counts = after .counts }) then
   unfolding file
   proposal-tie =
       let h = t .fine .decided in
@@ -137,7 +134,7 @@ module _ (S : Seat) (s : State) (p : History) (t : Tie S s p) (bytes : List ℕ)
         own-is = t .own-is;
         fine =
             with-proposals-fine bench (t .fine) (after .proposals)
-            (file-proposal-fine (bench .n) filed fine-filed (s .lent .names) (s .lent .counts) proposalsPlace bytes (m .sender) priority (let a = good .sender in let d = t .n-is in omega arith));
+            (file-proposal-fine (bench .n) filed fine-filed (s .names) (s .counts) proposalsPlace bytes (m .sender) priority (let a = good .sender in let d = t .n-is in omega arith));
         roomy = roomy-elsewhere lists-elsewhere (t .roomy);
         last-is = t .last-is;
         gathering-is = t .gathering-is;

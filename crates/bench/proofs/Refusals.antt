@@ -14,11 +14,11 @@ use Rattle.message.proofs.CauseLaws.{no-failure, failure-append, listed, row-gi
 use Rattle.message.proofs.Acceptance.{read-cause, accepted as read-accepted}
 use Rattle.bench.specs.Terms.{Terms, seatOf}
 use Rattle.bench.specs.Layout.{Lent, shortLists}
-use Rattle.bench.specs.Calls.{Reply, refused, done, Opening, Step, State, openTo}
+use Rattle.bench.specs.Calls.{Reply, refused, done, Opening, Step, State, coreOf, openTo}
 use Rattle.bench.specs.Causes.{openCauses, messageCauses}
 use Rattle.bench.specs.History.{openRefusal}
 use Rattle.bench.specs.Record.{freshBench, beatOf, idle, beyond}
-use Rattle.bench.specs.ByRecord.{refuse, recordCauses, notOpened, openOf, begun, beginRows, beginOf, fileMessage, taken, receiveRows, receiveOf, actedOf, actedNow, actRows, actOf}
+use Rattle.bench.specs.ByRecord.{refuse, stepBy, recordCauses, notOpened, openOf, begun, beginRows, beginOf, fileMessage, taken, receiveRows, receiveOf, actedOf, actedNow, actRows, actOf}
 use Rattle.bench.specs.Tested.{Usable}
 
 -- ---- Open
@@ -95,17 +95,17 @@ begin-judged s beat =
     (λ k e. let z : _≡_ {A = ℕ} 0 1 = cc in omega arith)
 
 pub receive-judged : (s : State) (bytes : List ℕ)
-    → Judged (receiveRows s bytes) s [] (taken (fileMessage s bytes (meaningIn bytes))) (receiveOf s bytes)
+    → Judged (receiveRows s bytes) s [] (stepBy s (taken (fileMessage (coreOf s) bytes (meaningIn bytes)))) (receiveOf s bytes)
 unfolding receiveOf
 receive-judged s bytes =
-    by-causes (receiveRows s bytes) s [] (taken (fileMessage s bytes (meaningIn bytes)))
+    by-causes (receiveRows s bytes) s [] (stepBy s (taken (fileMessage (coreOf s) bytes (meaningIn bytes))))
     (λ k e. let z : _≡_ {A = ℕ} 0 1 = cc in omega arith)
 
 pub act-judged : (s : State) (block : Block) (priority : ℕ) (out : List ℕ)
-    → Judged (actRows s out) s out (actedNow s block priority out) (actOf s block priority out)
+    → Judged (actRows s out) s out (stepBy s (actedNow (coreOf s) block priority out)) (actOf s block priority out)
 unfolding actOf actedOf
 act-judged s block priority out =
-    by-causes (actRows s out) s out (actedNow s block priority out)
+    by-causes (actRows s out) s out (stepBy s (actedNow (coreOf s) block priority out))
     (λ k e. let z : _≡_ {A = ℕ} 0 1 = cc in omega arith)
 
 -- ---- 9 and 8, which come first in each: given exactly if so, where no later row has the number
@@ -124,15 +124,15 @@ module _ {cs : List Cause} {s : State} {out : List ℕ} {t r : Step} (j : Judged
   only-8 n q = let x = row-only cs 8 (shortLists (s .lent)) (by 9 (beyond (s .bench)) ∷ []) refl n (j .cause 8 q) in (x .0 .0, x .1)
 
 -- where neither is given, the causes of its own judge it
-pub usable-past : {A : Type 0} (refuse : ℕ → A) (x : A) (s : State) (cs : List Cause) → Usable s → judgedBy (recordCauses s ++ cs) refuse x ≡ judgedBy cs refuse x
+pub usable-past : {A : Type 0} (refuse : ℕ → A) (x : A) (s : State) (cs : List Cause) → Usable (coreOf s) → judgedBy (recordCauses s ++ cs) refuse x ≡ judgedBy cs refuse x
 usable-past refuse x s cs u = judged-past refuse x (recordCauses s) cs (u .limits, (u .lists, tt))
 
 -- Receive, in a gathering: the message's
-pub receive-on : (s : State) (bytes : List ℕ) → Usable s → idle (s .bench) ≡ false
-    → receiveOf s bytes ≡ judgedBy (messageCauses (s .bench .n) (beatOf (s .bench)) bytes) (refuse s []) (taken (fileMessage s bytes (meaningIn bytes)))
+pub receive-on : (s : State) (bytes : List ℕ) → Usable (coreOf s) → idle (s .bench) ≡ false
+    → receiveOf s bytes ≡ judgedBy (messageCauses (s .bench .n) (beatOf (s .bench)) bytes) (refuse s []) (stepBy s (taken (fileMessage (coreOf s) bytes (meaningIn bytes))))
 unfolding receiveOf
 receive-on s bytes u g =
-    judged-past (refuse s []) (taken (fileMessage s bytes (meaningIn bytes))) (recordCauses s ++ (by 22 (idle (s .bench)) ∷ [])) (messageCauses (s .bench .n) (beatOf (s .bench)) bytes)
+    judged-past (refuse s []) (stepBy s (taken (fileMessage (coreOf s) bytes (meaningIn bytes)))) (recordCauses s ++ (by 22 (idle (s .bench)) ∷ [])) (messageCauses (s .bench .n) (beatOf (s .bench)) bytes)
     (u .limits, (u .lists, (g, tt)))
 
 -- and once it is read: refused as it was read, or by its window alone

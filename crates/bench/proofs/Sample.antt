@@ -21,7 +21,7 @@ use Rattle.agreement.specs.Proposals.{fileProposalOf, bestOf}
 use Rattle.agreement.specs.Kept.{keptProposal}
 use Rattle.agreement.specs.Heard.{voteAmong}
 use Rattle.bench.specs.Layout.{leastLent, mostBytes}
-use Rattle.bench.specs.Calls.{Reply, done, acted, Step, State}
+use Rattle.bench.specs.Calls.{Reply, done, acted, Step, State, coreOf}
 use Rattle.bench.specs.Acts.{propose, vote, makes}
 use Rattle.bench.specs.Record.{freshBench, agreementOf, proposalsOf, withAgreement, anyPlace, beyondAgreement, beyondProposals, beyond}
 use Rattle.bench.specs.ByRecord.{keptAgreement, keptProposals, beginOf, fileMessage, receiveOf, usedOf, settled, snappedBy, changed, actedOf, actOf, decidedLog}
@@ -67,7 +67,7 @@ rollFrom s out [] = []
 rollFrom s out (o ∷ os) =
     let b : Step = beginOf s (beatIn o) in
     let a : Step = actOf (heardIn o (b .held)) (blockIn o) (priorityIn o) out in
-    record { begun = b .answer .reply; made = a .answer .reply; decided = decidedLog (a .held); parted = isYes (a .held .bench .parted) }
+    record { begun = b .answer .reply; made = a .answer .reply; decided = decidedLog (coreOf (a .held)); parted = isYes (a .held .bench .parted) }
     ∷ rollFrom (a .held) (a .answer .out) os
 
 -- bench 0 of 1, as Open gives it

@@ -16,7 +16,7 @@ use Rattle.agreement.specs.Grades.{gradeBy, gradeOf}
 use Rattle.agreement.specs.Heard.{heardLogs, gradeNow, gradeWith, heardProposals, voteAmong}
 use Rattle.agreement.proofs.RecordLaws.{Within, grade-zero, grade-by, gradeNow-cong, gradeWith-cong, vote-kept}
 use Rattle.bench.specs.Terms.{Seat, weightOf}
-use Rattle.bench.specs.Calls.{State}
+use Rattle.bench.specs.Calls.{Core}
 use Rattle.bench.specs.Layout.{logsPlace, proposalsPlace}
 use Rattle.bench.specs.Calendar.{lastView, lastBeat, inputBeat, closeBeat, viewOf, placeIn, voting, actAt}
 use Rattle.bench.specs.Acts.{isView, inViews, propose, vote, makes, decides}
@@ -38,16 +38,16 @@ within-fine n g few f = record {
   short = λ i l. f .sender i .short;
 }
 
-module _ (S : Seat) (s : State) (p : History) (t : Tie S s p) where
+module _ (S : Seat) (s : Core) (p : History) (t : Tie S s p) where
   abbrev b : Bench
   b = s .bench
 
-  room : (v : ℕ) → lacksRoom (s .lent .names) (s .lent .counts) (logsPlace v) ≡ false
+  room : (v : ℕ) → lacksRoom (s .names) (s .counts) (logsPlace v) ≡ false
   room v =
       let x = t .roomy .names in
       let y = t .roomy .counts in
       let z = logs-low v in
-      rw (le-ltb (length (s .lent .names)) (logsPlace v + span) (omega arith), le-ltb (length (s .lent .counts)) (logsPlace v + span) (omega arith))
+      rw (le-ltb (length (s .names)) (logsPlace v + span) (omega arith), le-ltb (length (s .counts)) (logsPlace v + span) (omega arith))
 
   -- ---- the grades of an open view's agreement
 
@@ -55,28 +55,28 @@ module _ (S : Seat) (s : State) (p : History) (t : Tie S s p) where
     abbrev g : Agreement
     g = agreementOf b u
 
-    held : Holds (s .lent) g p u
+    held : Holds (s .names) (s .counts) g p u
     held = t .filled .views u low still
 
     within : Within (b .n) g
     within = within-fine (b .n) g (t .fine .few) (agreement-fine b u low (t .fine))
 
     abbrev kept : ℕ → Kept Log
-    kept = keptLog (s .lent .names) (s .lent .counts) (logsPlace u) g
+    kept = keptLog (s .names) (s .counts) (logsPlace u) g
 
-    by-snapshot : (k : SnapshotNumber) → gradeBy (s .lent .names) (s .lent .counts) (logsPlace u) g (snapshotAt k (g .marks))
+    by-snapshot : (k : SnapshotNumber) → gradeBy (s .names) (s .counts) (logsPlace u) g (snapshotAt k (g .marks))
         ≡ gradeWith (S .terms .n) (weightOf (S .terms)) (heardLogs (p .heard) u) (snapshotTook p k u)
     unfolding weightOf
     by-snapshot k =
-        grade-by (b .n) (s .lent .names) (s .lent .counts) (logsPlace u) g within (room u) (snapshotAt k (g .marks))
+        grade-by (b .n) (s .names) (s .counts) (logsPlace u) g within (room u) (snapshotAt k (g .marks))
         ∙ ap (λ (n : ℕ). gradeWith n (weightOf (S .terms)) kept (snapshotIn (snapshotAt k (g .marks)))) (t .n-is)
         ∙ gradeWith-cong (S .terms .n) (weightOf (S .terms)) kept (heardLogs (p .heard) u) (λ i l. held .logs i) (snapshotIn (snapshotAt k (g .marks)))
         ∙ ap (gradeWith (S .terms .n) (weightOf (S .terms)) (heardLogs (p .heard) u)) (held .snapshots k)
 
-    grade-same : (k : ℕ) → gradeOf (s .lent .names) (s .lent .counts) (logsPlace u) g k ≡ gradeAt S p u k
+    grade-same : (k : ℕ) → gradeOf (s .names) (s .counts) (logsPlace u) g k ≡ gradeAt S p u k
     unfolding gradeAt weightOf
     grade-same zero =
-        grade-zero (b .n) (s .lent .names) (s .lent .counts) (logsPlace u) g within (room u)
+        grade-zero (b .n) (s .names) (s .counts) (logsPlace u) g within (room u)
         ∙ ap (λ (n : ℕ). gradeNow n (weightOf (S .terms)) kept) (t .n-is)
         ∙ gradeNow-cong (S .terms .n) (weightOf (S .terms)) kept (heardLogs (p .heard) u) (λ i l. held .logs i)
     grade-same (suc zero) = by-snapshot two
@@ -85,7 +85,7 @@ module _ (S : Seat) (s : State) (p : History) (t : Tie S s p) where
   -- ---- the vote
 
   abbrev chooseOf : ℕ → Log → Log
-  chooseOf v = voteAmong mostSenders (keptProposal (s .lent .names) (s .lent .counts) proposalsPlace (proposalsOf b v))
+  chooseOf v = voteAmong mostSenders (keptProposal (s .names) (s .counts) proposalsPlace (proposalsOf b v))
 
   abbrev chooseAt : ℕ → Log → Log
   chooseAt v = voteAmong (S .terms .n) (heardProposals (p .proposals) v)
@@ -93,9 +93,9 @@ module _ (S : Seat) (s : State) (p : History) (t : Tie S s p) where
   choose-same : (v : ℕ) → v ≤ lastView → b .next ≤ inputBeat v + 1 → (L : Log) → chooseOf v L ≡ chooseAt v L
   choose-same v low still L =
       let f = proposals-fine b v low (t .fine) in
-      let filed = keptProposal (s .lent .names) (s .lent .counts) proposalsPlace (proposalsOf b v) in
+      let filed = keptProposal (s .names) (s .counts) proposalsPlace (proposalsOf b v) in
       let same : filed ≡ heardProposals (p .proposals) v = fun-ext (λ i. t .filled .proposals v low still i) in
-      vote-kept (b .n) (s .lent .names) (s .lent .counts) proposalsPlace (proposalsOf b v) L (t .fine .few) (λ i h l. f .proposer i .not-filed h) (λ i h l. f .proposer i .not-aside h)
+      vote-kept (b .n) (s .names) (s .counts) proposalsPlace (proposalsOf b v) L (t .fine .few) (λ i h l. f .proposer i .not-filed h) (λ i h l. f .proposer i .not-aside h)
       ∙ ap (λ (k : ℕ). voteAmong k filed L) (t .n-is)
       ∙ ap (λ (x : ℕ → Kept Proposed). voteAmong (S .terms .n) x L) same
 

@@ -1,7 +1,9 @@
 -- An act ends the gathering and settles its decision: what stands in the record and the lists is what the decisions come to; what is filed stays.
 -- Assumes nothing.
+use Prim.Native.Nat.{ℕ}
 use native.Mathlib.Omega.{arith}
 use mathlib.Core.Bool.{true, false}
+use mathlib.Core.List.{List}
 use mathlib.Core.Option.{Option, some, none}
 use mathlib.Core.Path.{_≡_, refl, sym, ap, _∙_}
 use lib.ListN.{length}
@@ -15,31 +17,31 @@ use Rattle.message.proofs.ListedLaws.{log-stored}
 use Rattle.agreement.proofs.ElsewhereLaws.{Elsewhere, put-elsewhere}
 use Rattle.agreement.specs.Sets.{isYes}
 use Rattle.bench.specs.Terms.{Seat}
-use Rattle.bench.specs.Calls.{State}
-use Rattle.bench.specs.Layout.{decidedPlace, Lent}
+use Rattle.bench.specs.Calls.{Core}
+use Rattle.bench.specs.Layout.{decidedPlace}
 use Rattle.bench.specs.Acts.{Stand, settle}
 use Rattle.bench.specs.History.{History, standIn}
 use Rattle.bench.specs.Record.{agreementOf, proposalsOf, withGatheringOver, withDecided, withParted, Bench}
-use Rattle.bench.specs.ByRecord.{decidedLog, over, settled, standing}
+use Rattle.bench.specs.ByRecord.{decidedLog, over, settled, standOf}
 use Rattle.bench.proofs.Fine.{Fine}
 use Rattle.bench.proofs.FineBench.{over-fine, decided-fine, parted-fine}
 use Rattle.bench.proofs.Ties.{Filled, Roomy, Tie}
 use Rattle.bench.proofs.Filling.{filled-decided}
 use Rattle.bench.proofs.LogTies.{roomy-elsewhere}
 
--- The state x after a decision d, of a bench that was tied to p and whose gathering is over.
-pub record Settled (S : Seat) (s : State) (p : History) (d : Option Log) (x : State) : Type 0 where
+-- The core x after a decision d, of a bench that was tied to p and whose gathering is over.
+pub record Settled (S : Seat) (s : Core) (p : History) (d : Option Log) (x : Core) : Type 0 where
   pub n-is : x .bench .n ≡ S .terms .n
   pub own-is : x .bench .own ≡ S .own
   pub next-is : x .bench .next ≡ s .bench .next
   pub at-rest : x .bench .gathering ≡ 0
   pub fine : Fine (x .bench)
-  pub roomy : Roomy (x .lent)
-  pub filled : Filled (x .bench) (x .lent) p
-  pub stand-is : standing x ≡ settle (standIn (S .stood) (p .actions)) d
+  pub roomy : Roomy (x .names) (x .counts)
+  pub filled : Filled (x .bench) (x .names) (x .counts) p
+  pub stand-is : standOf x ≡ settle (standIn (S .stood) (p .actions)) d
 
 -- a record with the same agreements, proposals and beat holds the same
-same-filled : {b c : Bench} {l : Lent} {p : History} → c .next ≡ b .next → c .even ≡ b .even → c .odd ≡ b .odd → c .proposals ≡ b .proposals → Filled b l p → Filled c l p
+same-filled : {b c : Bench} {ns cs : List ℕ} {p : History} → c .next ≡ b .next → c .even ≡ b .even → c .odd ≡ b .odd → c .proposals ≡ b .proposals → Filled b ns cs p → Filled c ns cs p
 unfolding agreementOf proposalsOf
 same-filled e f g h x = record {
   views = rw (e, f, g) (x .views);
@@ -47,8 +49,8 @@ same-filled e f g h x = record {
   since = rw e (x .since);
 }
 
-module _ (S : Seat) (s : State) (p : History) (t : Tie S s p) where
-  over-filled : Filled (withGatheringOver (s .bench)) (s .lent) p
+module _ (S : Seat) (s : Core) (p : History) (t : Tie S s p) where
+  over-filled : Filled (withGatheringOver (s .bench)) (s .names) (s .counts) p
   over-filled = same-filled refl refl refl refl (t .filled)
 
   -- nothing to decide
@@ -66,23 +68,24 @@ module _ (S : Seat) (s : State) (p : History) (t : Tie S s p) where
   }
 
   module _ (L : Log) (good : GoodLog L) where
-    elsewhere : Elsewhere decidedPlace mostBlocks (s .lent .names) (s .lent .counts) (put (s .lent .names) decidedPlace (namesOf L)) (put (s .lent .counts) decidedPlace (countsOf L))
+    elsewhere : Elsewhere decidedPlace mostBlocks (s .names) (s .counts) (put (s .names) decidedPlace (namesOf L)) (put (s .counts) decidedPlace (countsOf L))
     elsewhere =
         let l = good .short in
-        put-elsewhere decidedPlace mostBlocks (s .lent .names) (s .lent .counts) decidedPlace L (omega arith) (omega arith) (good .names) (good .counts)
+        put-elsewhere decidedPlace mostBlocks (s .names) (s .counts) decidedPlace L (omega arith) (omega arith) (good .names) (good .counts)
 
-    there : logAt (put (s .lent .names) decidedPlace (namesOf L)) (put (s .lent .counts) decidedPlace (countsOf L)) decidedPlace (length L) ≡ L
+    there : logAt (put (s .names) decidedPlace (namesOf L)) (put (s .counts) decidedPlace (countsOf L)) decidedPlace (length L) ≡ L
     there =
         let l = good .short in
         let x = t .roomy .names in
         let y = t .roomy .counts in
-        log-stored (s .lent .names) (s .lent .counts) decidedPlace L (omega arith) (omega arith)
+        log-stored (s .names) (s .counts) decidedPlace L (omega arith) (omega arith)
 
-    -- the state in which L has replaced what stood
-    abbrev replaced : State
+    -- the core in which L has replaced what stood
+    abbrev replaced : Core
     replaced = record {
       bench = withDecided (withGatheringOver (s .bench)) (length L);
-      lent = record { names = put (s .lent .names) decidedPlace (namesOf L); counts = put (s .lent .counts) decidedPlace (countsOf L) };
+      names = put (s .names) decidedPlace (namesOf L);
+      counts = put (s .counts) decidedPlace (countsOf L);
     }
 
     stands : decidedLog s ≡ standIn (S .stood) (p .actions) .log
@@ -100,7 +103,7 @@ module _ (S : Seat) (s : State) (p : History) (t : Tie S s p) where
         let e′ : isPrefix (standIn (S .stood) (p .actions) .log) L ≡ true = ap (λ (x : Log). isPrefix x L) (sym stands) ∙ e in
         let a = there in
         let m = marked in
-        let st : standing replaced ≡ record { log = L; parted = standIn (S .stood) (p .actions) .parted } =
+        let st : standOf replaced ≡ record { log = L; parted = standIn (S .stood) (p .actions) .parted } =
         λ i. record { log = a i; parted = m i } in
         let z : settle (standIn (S .stood) (p .actions)) (some L) ≡ record { log = L; parted = standIn (S .stood) (p .actions) .parted } = rw e′ in
         rw e (record {
@@ -132,7 +135,7 @@ module _ (S : Seat) (s : State) (p : History) (t : Tie S s p) where
         let e′ : isPrefix (standIn (S .stood) (p .actions) .log) L ≡ false = ap (λ (x : Log). isPrefix x L) (sym stands) ∙ e in
         let f′ : isPrefix L (standIn (S .stood) (p .actions) .log) ≡ false = ap (isPrefix L) (sym stands) ∙ f in
         let a = stands in
-        let st : standing (record { bench = withParted (withGatheringOver (s .bench)); lent = s .lent }) ≡ record { log = standIn (S .stood) (p .actions) .log; parted = true } =
+        let st : standOf (record { bench = withParted (withGatheringOver (s .bench)); names = s .names; counts = s .counts }) ≡ record { log = standIn (S .stood) (p .actions) .log; parted = true } =
         λ i. record { log = a i; parted = true } in
         let z : settle (standIn (S .stood) (p .actions)) (some L) ≡ record { log = standIn (S .stood) (p .actions) .log; parted = true } = rw (e′, f′) in
         rw (e, f) (record {

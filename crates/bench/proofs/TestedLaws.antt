@@ -11,11 +11,11 @@ use Rattle.message.specs.Limits.{mostBlocks}
 use Rattle.message.specs.Store.{within}
 use Rattle.message.proofs.TestLaws.{or-false}
 use Rattle.message.proofs.ListedLaws.{Within, of-within}
-use Rattle.bench.specs.Layout.{decidedPlace, leastLent, mostBytes, Lent, shortLists, outOfRange}
+use Rattle.bench.specs.Layout.{decidedPlace, leastLent, mostBytes, tooShort, outOfRange}
 use Rattle.bench.specs.Calendar.{lastBeat}
-use Rattle.bench.specs.Calls.{State}
+use Rattle.bench.specs.Calls.{Core}
 use Rattle.bench.specs.Record.{withGatheringOver, beyondAgreement, beyondProposals, beyond, Bench}
-use Rattle.bench.specs.Answers.{lentAs, heldWith}
+use Rattle.bench.specs.Answers.{coreWith}
 use Rattle.bench.specs.Tested.{Usable, Tested, Before}
 
 -- ---- the record
@@ -32,43 +32,43 @@ within-limits b e =
 
 -- ---- the lists
 
-module _ (l : Lent) (e : shortLists l ≡ false) where
-  pub lists-roomy : (leastLent ≤ length (l .names)) × (leastLent ≤ length (l .counts))
+module _ (names counts : List ℕ) (e : tooShort names counts ≡ false) where
+  pub lists-roomy : (leastLent ≤ length names) × (leastLent ≤ length counts)
   lists-roomy =
-      let r = or-false (ltb (length (l .names)) leastLent) (ltb (length (l .counts)) leastLent) e in
-      (ltb-false (length (l .names)) leastLent (r .0), ltb-false (length (l .counts)) leastLent (r .1))
+      let r = or-false (ltb (length names) leastLent) (ltb (length counts) leastLent) e in
+      (ltb-false (length names) leastLent (r .0), ltb-false (length counts) leastLent (r .1))
 
-  lies-within : (a k : ℕ) → k ≤ mostBlocks → a + k ≤ leastLent → within (l .names) (l .counts) a k ≡ true
+  lies-within : (a k : ℕ) → k ≤ mostBlocks → a + k ≤ leastLent → within names counts a k ≡ true
   lies-within a k h g =
       let (n, c) = lists-roomy in
-      let w : Within (l .names) (l .counts) a k = record { few = h; inNames = omega arith; inCounts = omega arith } in
+      let w : Within names counts a k = record { few = h; inNames = omega arith; inCounts = omega arith } in
       of-within w
 
   -- a log before the decided log's place, and one at it
-  pub before-within : (a k : ℕ) → Before a k → within (l .names) (l .counts) a k ≡ true
+  pub before-within : (a k : ℕ) → Before a k → within names counts a k ≡ true
   before-within a k (ends, few) = lies-within a k few (omega arith)
 
-  pub decided-within : (k : ℕ) → k ≤ mostBlocks → within (l .names) (l .counts) decidedPlace k ≡ true
+  pub decided-within : (k : ℕ) → k ≤ mostBlocks → within names counts decidedPlace k ≡ true
   decided-within k h = lies-within decidedPlace k h (omega arith)
 
 -- ---- all that was tested, as the code finds it
 
-pub is-usable : (b : Bench) (names counts : List ℕ) (r q : Bool) → r ≡ beyond b → r ≡ false → q ≡ shortLists (lentAs names counts) → q ≡ false
-    → Usable (heldWith b names counts)
+pub is-usable : (b : Bench) (names counts : List ℕ) (r q : Bool) → r ≡ beyond b → r ≡ false → q ≡ tooShort names counts → q ≡ false
+    → Usable (coreWith b names counts)
 is-usable b names counts r q e t f u = record { limits = sym e ∙ t; lists = sym f ∙ u }
 
-pub act-asks : (b : Bench) (names counts out : List ℕ) (r q : Bool) → r ≡ beyond b → r ≡ false → q ≡ shortLists (lentAs names counts) → q ≡ false
-    → mostBytes ≤ length out → Tested (heldWith b names counts) out
+pub act-asks : (b : Bench) (names counts out : List ℕ) (r q : Bool) → r ≡ beyond b → r ≡ false → q ≡ tooShort names counts → q ≡ false
+    → mostBytes ≤ length out → Tested (coreWith b names counts) out
 act-asks b names counts out r q e t f u l = record { usable = is-usable b names counts r q e t f u; room = le-ltb (length out) mostBytes l }
 
-pub long-out : {s : State} {out : List ℕ} → Tested s out → mostBytes ≤ length out
+pub long-out : {s : Core} {out : List ℕ} → Tested s out → mostBytes ≤ length out
 long-out {s} {out} t = ltb-false (length out) mostBytes (t .room)
 
 -- ending the gathering does not matter to it
-module _ (b : Bench) (names counts out : List ℕ) (t : Tested (heldWith b names counts) out) where
-  pub usable-over : Usable (heldWith (withGatheringOver b) names counts)
+module _ (b : Bench) (names counts out : List ℕ) (t : Tested (coreWith b names counts) out) where
+  pub usable-over : Usable (coreWith (withGatheringOver b) names counts)
   unfolding beyond
   usable-over = record { limits = t .usable .limits; lists = t .usable .lists }
 
-  pub tested-over : Tested (heldWith (withGatheringOver b) names counts) out
+  pub tested-over : Tested (coreWith (withGatheringOver b) names counts) out
   tested-over = record { usable = usable-over; room = t .room }

@@ -14,23 +14,23 @@ use Rattle.agreement.specs.Heard.{heardLogs, ProposalHeard, heardProposals}
 use Rattle.agreement.specs.Record.{Agreement, SnapshotNumber, snapshotAt}
 use Rattle.agreement.specs.Proposals.{Proposals}
 use Rattle.bench.specs.Terms.{Seat}
-use Rattle.bench.specs.Calls.{State}
-use Rattle.bench.specs.Layout.{logsPlace, proposalsPlace, leastLent, Lent}
+use Rattle.bench.specs.Calls.{Core}
+use Rattle.bench.specs.Layout.{logsPlace, proposalsPlace, leastLent}
 use Rattle.bench.specs.Calendar.{lastView, viewBeat, inputBeat, closeBeat}
 use Rattle.bench.specs.History.{ActRecord, History, heardAt, snapshotTook, standIn}
 use Rattle.bench.specs.Record.{agreementOf, proposalsOf, idle, Bench}
-use Rattle.bench.specs.ByRecord.{standing}
+use Rattle.bench.specs.ByRecord.{standOf}
 use Rattle.bench.proofs.Fine.{Fine}
 use Rattle.bench.proofs.GoodHistory.{GoodHistory}
 
 -- The agreement g on the lists holds what the history has of view v.
-pub record Holds (l : Lent) (g : Agreement) (p : History) (v : ℕ) : Type 0 where
-  pub logs : (i : ℕ) → keptLog (l .names) (l .counts) (logsPlace v) g i ≡ heardLogs (p .heard) v i
+pub record Holds (ns cs : List ℕ) (g : Agreement) (p : History) (v : ℕ) : Type 0 where
+  pub logs : (i : ℕ) → keptLog ns cs (logsPlace v) g i ≡ heardLogs (p .heard) v i
   pub snapshots : (k : SnapshotNumber) → snapshotIn (snapshotAt k (g .marks)) ≡ snapshotTook p k v
 
 -- The proposals g on the lists hold what the history has of view v.
-abbrev pub HoldsProposals : Lent → Proposals → History → ℕ → Type 0
-HoldsProposals l g p v = (i : ℕ) → keptProposal (l .names) (l .counts) proposalsPlace g i ≡ heardProposals (p .proposals) v i
+abbrev pub HoldsProposals : List ℕ → List ℕ → Proposals → History → ℕ → Type 0
+HoldsProposals ns cs g p v = (i : ℕ) → keptProposal ns cs proposalsPlace g i ≡ heardProposals (p .proposals) v i
 
 -- Nothing in the history came before its beat; `next` is one more than the beat.
 pub record Since (next : ℕ) (p : History) : Type 0 where
@@ -39,31 +39,31 @@ pub record Since (next : ℕ) (p : History) : Type 0 where
   pub acts : (d : ActRecord) → List·Memᴰ d (p .actions) → d .beat < next
 
 -- Of every view that is open, to LOGs or to PROPOSALs, the same is held.
-pub record Filled (b : Bench) (l : Lent) (p : History) : Type 0 where
-  pub views : (v : ℕ) → v ≤ lastView → b .next ≤ closeBeat v + 1 → Holds l (agreementOf b v) p v
-  pub proposals : (v : ℕ) → v ≤ lastView → b .next ≤ inputBeat v + 1 → HoldsProposals l (proposalsOf b v) p v
+pub record Filled (b : Bench) (ns cs : List ℕ) (p : History) : Type 0 where
+  pub views : (v : ℕ) → v ≤ lastView → b .next ≤ closeBeat v + 1 → Holds ns cs (agreementOf b v) p v
+  pub proposals : (v : ℕ) → v ≤ lastView → b .next ≤ inputBeat v + 1 → HoldsProposals ns cs (proposalsOf b v) p v
   pub since : Since (b .next) p
 
 -- the lists are long enough, and of the code's types
-pub record Roomy (l : Lent) : Type 0 where
-  pub names : leastLent ≤ length (l .names)
-  pub counts : leastLent ≤ length (l .counts)
-  pub name-bound : AllBelow (2 ^ 64) (l .names)
-  pub count-bound : AllBelow (2 ^ 16) (l .counts)
+pub record Roomy (ns cs : List ℕ) : Type 0 where
+  pub names : leastLent ≤ length ns
+  pub counts : leastLent ≤ length cs
+  pub name-bound : AllBelow (2 ^ 64) ns
+  pub count-bound : AllBelow (2 ^ 16) cs
 
 abbrev pub lastOf : ℕ → Option ℕ
 lastOf zero = none
 lastOf (suc b) = some b
 
-pub record Tie (S : Seat) (s : State) (p : History) : Type 0 where
+pub record Tie (S : Seat) (s : Core) (p : History) : Type 0 where
   pub n-is : s .bench .n ≡ S .terms .n
   pub own-is : s .bench .own ≡ S .own
   pub fine : Fine (s .bench)
-  pub roomy : Roomy (s .lent)
+  pub roomy : Roomy (s .names) (s .counts)
   pub last-is : lastOf (s .bench .next) ≡ p .last
   pub gathering-is : not (idle (s .bench)) ≡ p .gathering
-  pub filled : Filled (s .bench) (s .lent) p
-  pub stand-is : standing s ≡ standIn (S .stood) (p .actions)
+  pub filled : Filled (s .bench) (s .names) (s .counts) p
+  pub stand-is : standOf s ≡ standIn (S .stood) (p .actions)
   pub good : GoodHistory S p
 
 -- ---- nothing was done at a beat still to come

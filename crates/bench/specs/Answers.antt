@@ -7,7 +7,7 @@ use mathlib.Core.Path.{_≡_}
 use Rattle.message.specs.Message.{Content, logMessage, proposalMessage, senderIn, viewIn, priorityIn, blocksIn}
 use Rattle.agreement.specs.Filing.{first, second, known}
 use Rattle.bench.specs.Layout.{Lent}
-use Rattle.bench.specs.Calls.{Reply, refused, done, took, acted, State, Opening, Step}
+use Rattle.bench.specs.Calls.{Reply, refused, done, took, acted, State, Core, Opening, Step}
 use Rattle.bench.specs.Record.{Bench, benchOf}
 use Rattle.bench.specs.declared.Bench as struct
 use Rattle.bench.specs.declared.Start.{Start}
@@ -24,6 +24,9 @@ lentAs names counts = record { names = names; counts = counts }
 
 abbrev pub heldWith : Bench → List ℕ → List ℕ → State
 heldWith b names counts = record { bench = b; lent = lentAs names counts }
+
+abbrev pub coreWith : Bench → List ℕ → List ℕ → Core
+coreWith b names counts = record { bench = b; names = names; counts = counts }
 
 abbrev pub stateOf : struct.Bench → List ℕ → List ℕ → State
 stateOf b names counts = heldWith (benchOf b) names counts

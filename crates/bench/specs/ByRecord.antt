@@ -21,7 +21,7 @@ use Rattle.agreement.specs.Kept.{keptProposal}
 use Rattle.agreement.specs.Heard.{voteAmong}
 use Rattle.bench.specs.Layout.{logsPlace, proposalsPlace, decidedPlace, Lent, shortLists}
 use Rattle.bench.specs.Calendar.{logsShut, proposalsShut, viewOf, placeIn, Act, actAt, gradeRead, snapshotTaken}
-use Rattle.bench.specs.Calls.{refused, done, took, acted, State, Opening, Step}
+use Rattle.bench.specs.Calls.{refused, done, took, acted, State, Core, coreOf, Answer, Opening, Step}
 use Rattle.bench.specs.Causes.{openCauses, beginCauses, receiveCauses, actCauses}
 use Rattle.bench.specs.Acts.{Seen, usedFirst, usedOfGrade, isView, makes, decides, Stand, outAfter}
 use Rattle.bench.specs.Record.{freshBench, agreementOf, proposalsOf, beatOf, notAboveLast, idle, withAgreement, withProposals, withGatheringOver, withDecided, withParted, beyond, Bench}
@@ -29,6 +29,18 @@ use Rattle.bench.specs.Record.{freshBench, agreementOf, proposalsOf, bea
 -- refused by k: nothing else changes
 abbrev pub refuse : State → List ℕ → ℕ → Step
 refuse s out k = record { held = s; answer = record { reply = refused k; out = out } }
+
+-- What filing or an act leaves of the core, and what is answered.
+pub record Effect : Type 0 where
+  pub core : Core
+  pub answer : Answer
+
+-- The call that does it: what is not of the core stays (there is nothing else so far).
+abbrev pub stepBy : State → Effect → Step
+stepBy s e = record {
+  held = record { bench = e .core .bench; lent = record { names = e .core .names; counts = e .core .counts } };
+  answer = e .answer;
+}
 
 -- 9 and 8 come first in each call on a record.
 abbrev pub recordCauses : State → List Cause
@@ -83,120 +95,125 @@ beginOf s beat = judgedBy (beginRows s beat) (refuse s []) (begun s beat)
 -- what filing comes to: the word, and what is held afterwards
 pub record Outcome : Type 0 where
   pub word : Word
-  pub held : State
+  pub held : Core
 
-abbrev pub logOutcome : State → ℕ → Filing → Outcome
-logOutcome s v f = record {
+abbrev pub logOutcome : Core → ℕ → Filing → Outcome
+logOutcome c v f = record {
   word = f .word;
-  held =
-      record { bench = withAgreement (s .bench) v (f .agreement); lent = record { names = f .names; counts = f .counts } };
+  held = record { bench = withAgreement (c .bench) v (f .agreement); names = f .names; counts = f .counts };
 }
 
-abbrev pub proposalOutcome : State → ProposalFiling → Outcome
-proposalOutcome s f = record {
+abbrev pub proposalOutcome : Core → ProposalFiling → Outcome
+proposalOutcome c f = record {
   word = f .word;
-  held = record { bench = withProposals (s .bench) (f .proposals); lent = record { names = f .names; counts = f .counts } };
+  held = record { bench = withProposals (c .bench) (f .proposals); names = f .names; counts = f .counts };
 }
 
 -- a LOG of view v from sender i, with its bytes, in that view's agreement
-abbrev pub fileLog : State → List ℕ → ℕ → ℕ → Outcome
-fileLog s bytes v i = logOutcome s v (fileOf (agreementOf (s .bench) v) (s .lent .names) (s .lent .counts) (logsPlace v) bytes i)
+abbrev pub fileLog : Core → List ℕ → ℕ → ℕ → Outcome
+fileLog c bytes v i = logOutcome c v (fileOf (agreementOf (c .bench) v) (c .names) (c .counts) (logsPlace v) bytes i)
 
 -- a PROPOSAL among that view's proposals
-abbrev pub fileProposal : State → List ℕ → ℕ → ℕ → ℕ → Outcome
-fileProposal s bytes v i priority =
-    proposalOutcome s (fileProposalOf (proposalsOf (s .bench) v) (s .lent .names) (s .lent .counts) proposalsPlace bytes i priority)
+abbrev pub fileProposal : Core → List ℕ → ℕ → ℕ → ℕ → Outcome
+fileProposal c bytes v i priority =
+    proposalOutcome c (fileProposalOf (proposalsOf (c .bench) v) (c .names) (c .counts) proposalsPlace bytes i priority)
 
 -- by its kind: one rule for messages received and for one's own
-unfoldable pub fileMessage : State → List ℕ → Meaning → Outcome
-fileMessage s bytes (logMessage m) = fileLog s bytes (agreementNumber m) (m .sender)
-fileMessage s bytes (proposalMessage m priority) = fileProposal s bytes (m .view) (m .sender) priority
+unfoldable pub fileMessage : Core → List ℕ → Meaning → Outcome
+fileMessage c bytes (logMessage m) = fileLog c bytes (agreementNumber m) (m .sender)
+fileMessage c bytes (proposalMessage m priority) = fileProposal c bytes (m .view) (m .sender) priority
 
 -- ---- Receive
 
 -- filed: the word is answered
-abbrev pub taken : Outcome → Step
-taken f = record { held = f .held; answer = record { reply = took (f .word); out = [] } }
+abbrev pub taken : Outcome → Effect
+taken f = record { core = f .held; answer = record { reply = took (f .word); out = [] } }
 
 -- 9, 8, 22, 1 to 6, 21
 abbrev pub receiveRows : State → List ℕ → List Cause
 receiveRows s bytes = recordCauses s ++ receiveCauses (idle (s .bench)) (s .bench .n) (beatOf (s .bench)) bytes
 
 unfoldable pub receiveOf : State → List ℕ → Step
-receiveOf s bytes = judgedBy (receiveRows s bytes) (refuse s []) (taken (fileMessage s bytes (meaningIn bytes)))
+receiveOf s bytes = judgedBy (receiveRows s bytes) (refuse s []) (stepBy s (taken (fileMessage (coreOf s) bytes (meaningIn bytes))))
 
 -- ---- what an act of view v sees
 
 -- the log that it uses, by the agreement of the view before
-unfoldable pub usedOf : State → ℕ → Act → Option Log
-usedOf s zero a = usedFirst a
-usedOf s (suc u) a = usedOfGrade (gradeOf (s .lent .names) (s .lent .counts) (logsPlace u) (agreementOf (s .bench) u)) (gradeRead a)
+unfoldable pub usedOf : Core → ℕ → Act → Option Log
+usedOf c zero a = usedFirst a
+usedOf c (suc u) a = usedOfGrade (gradeOf (c .names) (c .counts) (logsPlace u) (agreementOf (c .bench) u)) (gradeRead a)
 
-abbrev pub seenOf : State → ℕ → Act → Seen
-seenOf s v a = record {
-  used = usedOf s v a;
-  choose = voteAmong mostSenders (keptProposal (s .lent .names) (s .lent .counts) proposalsPlace (proposalsOf (s .bench) v));
+abbrev pub seenOf : Core → ℕ → Act → Seen
+seenOf c v a = record {
+  used = usedOf c v a;
+  choose = voteAmong mostSenders (keptProposal (c .names) (c .counts) proposalsPlace (proposalsOf (c .bench) v));
 }
 
 -- ---- Act
 
 -- the decided log as record and lists hold it
-abbrev pub decidedLog : State → Log
-decidedLog s = logAt (s .lent .names) (s .lent .counts) decidedPlace (s .bench .decided)
+abbrev pub decidedLog : Core → Log
+decidedLog c = logAt (c .names) (c .counts) decidedPlace (c .bench .decided)
 
 -- what stands: that log, and the mark
+abbrev pub standOf : Core → Stand
+standOf c = record { log = decidedLog c; parted = isYes (c .bench .parted) }
+
 abbrev pub standing : State → Stand
-standing s = record { log = decidedLog s; parted = isYes (s .bench .parted) }
+standing s = standOf (coreOf s)
 
 -- A decision does to record and lists what `settle` does to what stands (Settling: decision-settled): it extends the decided log and replaces it, is
 -- a prefix of it and changes nothing, or sets the mark.
-unfoldable pub settled : State → Option Log → State
-settled s none = s
-settled s (some L) =
-    pick (isPrefix (decidedLog s) L)
+unfoldable pub settled : Core → Option Log → Core
+settled c none = c
+settled c (some L) =
+    pick (isPrefix (decidedLog c) L)
     (record {
-      bench = withDecided (s .bench) (length L);
-      lent = record { names = put (s .lent .names) decidedPlace (namesOf L); counts = put (s .lent .counts) decidedPlace (countsOf L) };
+      bench = withDecided (c .bench) (length L);
+      names = put (c .names) decidedPlace (namesOf L);
+      counts = put (c .counts) decidedPlace (countsOf L);
     })
-    (pick (isPrefix L (decidedLog s)) s (record { bench = withParted (s .bench); lent = s .lent }))
+    (pick (isPrefix L (decidedLog c)) c (record { bench = withParted (c .bench); names = c .names; counts = c .counts }))
 
 -- a snapshot of GA v
-unfoldable pub snappedBy : SnapshotNumber → ℕ → State → State
-snappedBy k v s =
-    pick (isView v) (record { bench = withAgreement (s .bench) v (withSnapshot k (agreementOf (s .bench) v)); lent = s .lent }) s
+unfoldable pub snappedBy : SnapshotNumber → ℕ → Core → Core
+snappedBy k v c =
+    pick (isView v)
+    (record { bench = withAgreement (c .bench) v (withSnapshot k (agreementOf (c .bench) v)); names = c .names; counts = c .counts })
+    c
 
 -- if one is taken
-abbrev pub snapped : Option SnapshotNumber → ℕ → State → State
-snapped none v s = s
-snapped (some k) v s = snappedBy k v s
+abbrev pub snapped : Option SnapshotNumber → ℕ → Core → Core
+snapped none v c = c
+snapped (some k) v c = snappedBy k v c
 
 -- what an act changes besides filing what it makes: it decides first, and then takes its snapshot
-unfoldable pub changed : State → ℕ → Act → State
-changed s v a = snapped (snapshotTaken a) v (settled s (decides (seenOf s v a) a))
+unfoldable pub changed : Core → ℕ → Act → Core
+changed c v a = snapped (snapshotTaken a) v (settled c (decides (seenOf c v a) a))
 
 -- What is made is filed from its bytes, and not judged by 1 to 6 again: names are used as they stand in the lists. Within the limits of 9 the bytes
 -- hold a log.
-abbrev pub withMade : State → Option Meaning → State
-withMade s none = s
-withMade s (some m) = fileMessage s (bytesOf m) m .held
+abbrev pub withMade : Core → Option Meaning → Core
+withMade c none = c
+withMade c (some m) = fileMessage c (bytesOf m) m .held
 
 -- the act of a row of the calendar, in view v, once the gathering is over
-unfoldable pub actedOf : State → Block → ℕ → List ℕ → ℕ → Act → Step
-actedOf s block priority out v a =
-    let made : Option Meaning = makes (s .bench .own) v block priority (seenOf s v a) a in
-    record { held = withMade (changed s v a) made; answer = record { reply = acted made; out = outAfter made out } }
+unfoldable pub actedOf : Core → Block → ℕ → List ℕ → ℕ → Act → Effect
+actedOf c block priority out v a =
+    let made : Option Meaning = makes (c .bench .own) v block priority (seenOf c v a) a in
+    record { core = withMade (changed c v a) made; answer = record { reply = acted made; out = outAfter made out } }
 
 -- the gathering is over
-abbrev pub over : State → State
-over s = record { bench = withGatheringOver (s .bench); lent = s .lent }
+abbrev pub over : Core → Core
+over c = record { bench = withGatheringOver (c .bench); names = c .names; counts = c .counts }
 
 -- the act of the beat, by its row
-abbrev pub actedNow : State → Block → ℕ → List ℕ → Step
-actedNow s block priority out = actedOf (over s) block priority out (viewOf (beatOf (s .bench))) (actAt (placeIn (beatOf (s .bench))))
+abbrev pub actedNow : Core → Block → ℕ → List ℕ → Effect
+actedNow c block priority out = actedOf (over c) block priority out (viewOf (beatOf (c .bench))) (actAt (placeIn (beatOf (c .bench))))
 
 -- 9, 8, 11, 22
 abbrev pub actRows : State → List ℕ → List Cause
 actRows s out = recordCauses s ++ actCauses out (idle (s .bench))
 
 unfoldable pub actOf : State → Block → ℕ → List ℕ → Step
-actOf s block priority out = judgedBy (actRows s out) (refuse s out) (actedNow s block priority out)
+actOf s block priority out = judgedBy (actRows s out) (refuse s out) (stepBy s (actedNow (coreOf s) block priority out))

@@ -41,6 +41,15 @@ pub record State : Type 0 where
   pub bench : Bench
   pub lent : Lent
 
+-- What filing, seeing, making and deciding use of it: they read and change nothing else.
+pub record Core : Type 0 where
+  pub bench : Bench
+  pub names : List ℕ
+  pub counts : List ℕ
+
+abbrev pub coreOf : State → Core
+coreOf s = record { bench = s .bench; names = s .lent .names; counts = s .lent .counts }
+
 -- What Open gives; what each other call leaves and answers.
 pub record Opening : Type 0 where
   pub reply : Reply

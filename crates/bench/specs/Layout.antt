@@ -34,9 +34,13 @@ pub record Lent : Type 0 where
   pub names : List ℕ
   pub counts : List ℕ
 
--- 8: a lent list is too short
+-- the names or the counts are too short
+abbrev pub tooShort : List ℕ → List ℕ → Bool
+tooShort names counts = ltb (length names) leastLent || ltb (length counts) leastLent
+
+-- 8: a lent list is
 abbrev pub shortLists : Lent → Bool
-shortLists l = ltb (length (l .names)) leastLent || ltb (length (l .counts)) leastLent
+shortLists l = tooShort (l .names) (l .counts)
 
 -- 7 and 9: n is not 1 to 32, or the own number not below n
 abbrev pub outOfRange : ℕ → ℕ → Bool

@@ -12,7 +12,7 @@ use Rattle.agreement.specs.Grades.{snapshotFor, Gives}
 use Rattle.agreement.specs.Tally.{supportersOf}
 use Rattle.bench.specs.Layout.{logsPlace}
 use Rattle.bench.specs.Calendar.{Act, gradeRead}
-use Rattle.bench.specs.Calls.{State}
+use Rattle.bench.specs.Calls.{Core}
 use Rattle.bench.specs.Record.{agreementOf, Bench}
 use Rattle.bench.specs.ByRecord.{usedOf}
 use Rattle.bench.specs.declared.Counted.{Counted}
@@ -41,18 +41,18 @@ orEmpty none = []
 orEmpty (some L) = L
 
 -- how many senders are heard, and how many of them support
-abbrev pub sendersRead : State → ℕ → Act → ℕ
-sendersRead s v a = count mostSenders (isSender (readBy (s .bench) v a))
+abbrev pub sendersRead : Core → ℕ → Act → ℕ
+sendersRead c v a = count mostSenders (isSender (readBy (c .bench) v a))
 
-abbrev pub supportersRead : State → ℕ → Act → ℕ
-supportersRead s v a =
-    let g : Agreement = readBy (s .bench) v a in
-    supportersOf (s .lent .names) (s .lent .counts) (logsPlace (v - 1)) g (amongOfGrade g (gradeRead a)) (orEmpty (usedOf s v a))
+abbrev pub supportersRead : Core → ℕ → Act → ℕ
+supportersRead c v a =
+    let g : Agreement = readBy (c .bench) v a in
+    supportersOf (c .names) (c .counts) (logsPlace (v - 1)) g (amongOfGrade g (gradeRead a)) (orEmpty (usedOf c v a))
 
 -- What is read is said so.
-pub record ReadingGives (s : State) (v : ℕ) (a : Act) (r : Counted) : Type 0 where
-  pub grade : Gives (usedOf s v a) (s .lent .names) (s .lent .counts) (logsPlace (v - 1)) (r .grade)
-  pub supporters : r .supporters ≡ supportersRead s v a
+pub record ReadingGives (c : Core) (v : ℕ) (a : Act) (r : Counted) : Type 0 where
+  pub grade : Gives (usedOf c v a) (c .names) (c .counts) (logsPlace (v - 1)) (r .grade)
+  pub supporters : r .supporters ≡ supportersRead c v a
   pub fewSupporters : r .supporters ≤ mostSenders
-  pub senders : r .senders ≡ sendersRead s v a
+  pub senders : r .senders ≡ sendersRead c v a
   pub fewSenders : r .senders ≤ mostSenders

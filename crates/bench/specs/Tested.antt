@@ -6,18 +6,18 @@ use mathlib.Core.Path.{_≡_}
 use lib.Dec.{ltb}
 use lib.ListN.{length}
 use Rattle.message.specs.Limits.{mostBlocks}
-use Rattle.bench.specs.Layout.{decidedPlace, mostBytes, shortLists}
-use Rattle.bench.specs.Calls.{State}
+use Rattle.bench.specs.Layout.{decidedPlace, mostBytes, tooShort}
+use Rattle.bench.specs.Calls.{Core}
 use Rattle.bench.specs.Record.{beyond}
 
 -- neither 9 nor 8 is to be given
-pub record Usable (s : State) : Type 0 where
-  pub limits : beyond (s .bench) ≡ false
-  pub lists : shortLists (s .lent) ≡ false
+pub record Usable (c : Core) : Type 0 where
+  pub limits : beyond (c .bench) ≡ false
+  pub lists : tooShort (c .names) (c .counts) ≡ false
 
 -- and, by an Act, not 11
-pub record Tested (s : State) (out : List ℕ) : Type 0 where
-  pub usable : Usable s
+pub record Tested (c : Core) (out : List ℕ) : Type 0 where
+  pub usable : Usable c
   pub room : ltb (length out) mostBytes ≡ false
 
 -- the k blocks from place a on end before the decided log's place

@@ -21,7 +21,7 @@ use Rattle.bench.specs.Layout.{isEven, logsPlace, decidedPlace}
 use Rattle.bench.specs.Calendar.{lastView, deciding}
 use Rattle.bench.specs.Record.{Bench, benchFrom, ofView, agreementOf, withAgreement}
 use Rattle.bench.specs.ByRecord.{usedOf, snappedBy}
-use Rattle.bench.specs.Answers.{lentAs, heldWith}
+use Rattle.bench.specs.Answers.{coreWith}
 use Rattle.bench.specs.declared.Head.{Head}
 use Rattle.bench.proofs.ActLaws.{settled-none, settled-extends, settled-stays, settled-parts, snapped-late, snapped-view}
 use Rattle.bench.proofs.TestedLaws.{before-within, decided-within}
@@ -42,10 +42,10 @@ partedHead h = record { next = h .next; n = h .n; own = h .own; decided = h .dec
 module _ (h : Head) (names counts : List ℕ) (a k : ℕ) (u : Settling h names counts a k) where
   -- the decided log and what is decided lie within the lists
   old-within : within names counts decidedPlace (h .decided) ≡ true
-  old-within = decided-within (lentAs names counts) (u .decidable .lists) (h .decided) (u .decidable .short)
+  old-within = decided-within names counts (u .decidable .lists) (h .decided) (u .decidable .short)
 
   new-within : within names counts a k ≡ true
-  new-within = before-within (lentAs names counts) (u .decidable .lists) a k (u .before)
+  new-within = before-within names counts (u .decidable .lists) a k (u .before)
 
   abbrev newLog : Log
   newLog = logAt names counts a k
@@ -62,11 +62,11 @@ module _ (h : Head) (names counts : List ℕ) (a k : ℕ) (u : Settling h names 
         → Settles h names counts (some newLog) (decidedHead h k) ns cs
     settle-extends t done ns cs s =
         let ok : (leb (a + k) decidedPlace && within names counts decidedPlace k) ≡ true =
-        rw (le-leb (a + k) decidedPlace (u .before .0), decided-within (lentAs names counts) (u .decidable .lists) k (u .before .1)) in
+        rw (le-leb (a + k) decidedPlace (u .before .0), decided-within names counts (u .decidable .lists) k (u .before .1)) in
         let w = stored-inside (leb (a + k) decidedPlace && within names counts decidedPlace k) names counts decidedPlace newLog done ns cs ok s in
         record {
           whole = λ x y p q.
-              rw (settled-extends (heldWith (benchFrom h x y p q) names counts) newLog (sym extends-is ∙ t))
+              rw (settled-extends (coreWith (benchFrom h x y p q) names counts) newLog (sym extends-is ∙ t))
               (record { bench = rw (length-at names counts a k); nameList = w .1 .0; countList = w .1 .1 });
         }
 
@@ -78,7 +78,7 @@ module _ (h : Head) (names counts : List ℕ) (a k : ℕ) (u : Settling h names 
       pub settle-stays : c ≡ true → Settles h names counts (some newLog) h names counts
       settle-stays t = record {
         whole = λ x y p q.
-            rw (settled-stays (heldWith (benchFrom h x y p q) names counts) newLog (sym extends-is ∙ f) (sym covered-is ∙ t))
+            rw (settled-stays (coreWith (benchFrom h x y p q) names counts) newLog (sym extends-is ∙ f) (sym covered-is ∙ t))
             (record { bench = refl; nameList = refl; countList = refl });
       }
 
@@ -86,15 +86,15 @@ module _ (h : Head) (names counts : List ℕ) (a k : ℕ) (u : Settling h names 
       pub settle-parts : c ≡ false → Settles h names counts (some newLog) (partedHead h) names counts
       settle-parts t = record {
         whole = λ x y p q.
-            rw (settled-parts (heldWith (benchFrom h x y p q) names counts) newLog (sym extends-is ∙ f) (sym covered-is ∙ t))
+            rw (settled-parts (coreWith (benchFrom h x y p q) names counts) newLog (sym extends-is ∙ f) (sym covered-is ∙ t))
             (record { bench = refl; nameList = refl; countList = refl });
       }
 
 -- ---- the decision, where the grade gives one
 
 module _ (h : Head) (e o names counts : List ℕ) (v : ℕ) (r : Grade)
-    (w : Gives (usedOf (heldWith (benchFrom h e o [] []) names counts) v deciding) names counts (logsPlace (v - 1)) r) where
-  given : (p q : List ℕ) → Gives (usedOf (heldWith (benchFrom h e o p q) names counts) v deciding) names counts (logsPlace (v - 1)) r
+    (w : Gives (usedOf (coreWith (benchFrom h e o [] []) names counts) v deciding) names counts (logsPlace (v - 1)) r) where
+  given : (p q : List ℕ) → Gives (usedOf (coreWith (benchFrom h e o p q) names counts) v deciding) names counts (logsPlace (v - 1)) r
   given p q = record { log = w .log ∙ used-whole h e o p q names counts v deciding; placed = w .placed }
 
   -- settle asks that it ends before the decided log's place
@@ -116,16 +116,16 @@ module _ (h : Head) (e o names counts : List ℕ) (v : ℕ) (r : Grade)
 module _ (h : Head) (e o : List ℕ) (v : ℕ) (second : Bool) where
   -- past the last view none is taken
   pub snap-past : lastView < v → Snaps h e o v second h e o
-  snap-past l = record { whole = λ p q names counts. sym (snapped-late _ v (heldWith (benchFrom h e o p q) names counts) l) }
+  snap-past l = record { whole = λ p q names counts. sym (snapped-late _ v (coreWith (benchFrom h e o p q) names counts) l) }
 
   taken : (m m′ : Marks) (ls : List ℕ) (b c : Bench) → v ≤ lastView → agreementFrom m ls ≡ agreementOf b v → m′ ≡ snapped (pick second two one) m
       → ((g : Agreement) → agreementFrom m′ ls ≡ g → c ≡ withAgreement b v g)
-      → (names counts : List ℕ) → heldWith c names counts ≡ snappedBy (pick second two one) v (heldWith b names counts)
+      → (names counts : List ℕ) → coreWith c names counts ≡ snappedBy (pick second two one) v (coreWith b names counts)
   taken m m′ ls b c l g s kept names counts =
-      ap (λ (x : Bench). heldWith x names counts)
+      ap (λ (x : Bench). coreWith x names counts)
       (kept (withSnapshot (pick second two one) (agreementOf b v))
       ((λ i. agreementFrom (s i) ls) ∙ ap (withSnapshot (pick second two one)) g))
-      ∙ sym (snapped-view (pick second two one) v (heldWith b names counts) l)
+      ∙ sym (snapped-view (pick second two one) v (coreWith b names counts) l)
 
   module _ (x : Bool) (y : x ≡ isEven v) (m m′ : Marks) (ls : List ℕ) (l : v ≤ lastView) (s : m′ ≡ snapped (pick second two one) m) where
     pub snap-even : x ≡ true → agreementFrom m ls ≡ ofView (agreementFrom (h .even) e) v → Snaps h e o v second (evenHead h m′) ls o

@@ -18,13 +18,13 @@ use Rattle.bench.specs.Layout.{isEven, logsPlace, proposalsPlace}
 use Rattle.bench.specs.Calls.{took}
 use Rattle.bench.specs.Record.{Bench, benchFrom, ofView, agreementOf, proposedIn, proposalsOf, withAgreement, withProposals}
 use Rattle.bench.specs.ByRecord.{fileLog, taken}
-use Rattle.bench.specs.Answers.{heldWith, takenReply, ReceiveGives}
+use Rattle.bench.specs.Answers.{coreWith, takenReply}
 use Rattle.bench.specs.declared.Head.{Head}
 use Rattle.bench.specs.declared.Taken.{Taken}
 use Rattle.bench.specs.declared.Taken.the-variants as takings
 use Rattle.bench.proofs.Replies.{taken-first, taken-second, taken-known}
 use Rattle.bench.proofs.Slots.{withSlots, agreement-even, agreement-odd, proposals-slot, stored-even, stored-odd}
-use Rattle.calls.specs.Steps.{ProposalFiled, EvenFiled, OddFiled}
+use Rattle.calls.specs.Steps.{ProposalFiled, EvenFiled, OddFiled, TakeGives}
 
 pub word-first : (a : Answer) → a ≡ words.First → takenReply takings.First ≡ took (wordOf a)
 word-first a e = rw e taken-first
@@ -79,7 +79,7 @@ module _ (names counts bytes : List ℕ) (v i : ℕ) (m k : Marks) (ls : List �
   log-filed : (g : Agreement) (b c : Bench) (base : ℕ) → base ≡ logsPlace v → agreementFrom m ls ≡ ofView g v → ofView g v ≡ agreementOf b v
       → LogStored (m .voters) (m .equivocators) ls names counts base bytes i a ls′ ns cs
       → ((x : Agreement) → agreementFrom k ls′ ≡ x → c ≡ withAgreement b v x)
-      → ReceiveGives (taken (fileLog (heldWith b names counts) bytes v i)) w c ns cs
+      → TakeGives (taken (fileLog (coreWith b names counts) bytes v i)) w c ns cs
   log-filed g b c base at e o d kept =
       let x : Files (fileOf (agreementOf b v) names counts (logsPlace v) bytes i) f ls′ ns cs =
       subst (λ (y : Agreement). Files (fileOf y names counts (logsPlace v) bytes i) f ls′ ns cs) (e ∙ o)

@@ -14,12 +14,12 @@ use Rattle.message.specs.Store.{logAt, logFrom, proposalFrom}
 use Rattle.message.proofs.TestLaws.{either, or-false}
 use Rattle.message.proofs.ListedLaws.{length-at}
 use Rattle.bench.specs.Calendar.{Act, proposing, voting}
-use Rattle.bench.specs.Calls.{State}
+use Rattle.bench.specs.Calls.{Core}
 use Rattle.bench.specs.Acts.{propose, vote, makes}
 use Rattle.bench.specs.ByRecord.{changed, usedOf, seenOf, actedOf}
-use Rattle.bench.specs.Answers.{heldWith, ActGives}
+use Rattle.bench.specs.Answers.{coreWith}
 use Rattle.bench.specs.Tested.{Tested, Before}
-use Rattle.calls.specs.Steps.{foundLog, FoundBefore, Finds, ballot, ballotOf, Making, madeStep, LogMade, ProposalMade, noBlock}
+use Rattle.calls.specs.Steps.{foundLog, FoundBefore, Finds, ballot, ballotOf, Making, MakeGives, madeStep, LogMade, ProposalMade, noBlock}
 use Rattle.agreement.specs.Limits.{placeOf}
 use Rattle.agreement.specs.Grades.{Gives}
 use Rattle.agreement.specs.declared.Grade.{Grade}
@@ -38,18 +38,18 @@ use Rattle.bench.specs.declared.Made.the-variants as makings
 
 -- ---- an act, by what it makes
 
-module _ (s : State) (block : Block) (priority : ℕ) (out : List ℕ) (v : ℕ) (a : Act) where
+module _ (s : Core) (block : Block) (priority : ℕ) (out : List ℕ) (v : ℕ) (a : Act) where
   -- nothing: what it changed is left
-  pub acts-none : (c : Bench) (ns cs : List ℕ) → changed s v a ≡ heldWith c ns cs
+  pub acts-none : (c : Bench) (ns cs : List ℕ) → changed s v a ≡ coreWith c ns cs
       → makes (s .bench .own) v block priority (seenOf s v a) a ≡ none
-      → ActGives (actedOf s block priority out v a) makings.Nothing c ns cs out
+      → MakeGives (actedOf s block priority out v a) makings.Nothing c ns cs out
   acts-none c ns cs e q =
-      rw (acted-by s v block priority out a (heldWith c ns cs) none e q)
+      rw (acted-by s v block priority out a (coreWith c ns cs) none e q)
       (record { answered = made-nothing out; bench = refl; nameList = refl; countList = refl; buffer = refl })
 
   acts-made : (m : Meaning) (r : Made) (c : Bench) (ns cs o : List ℕ) → changed s v a ≡ s
-      → makes (s .bench .own) v block priority (seenOf s v a) a ≡ some m → ActGives (madeStep s out m) r c ns cs o
-      → ActGives (actedOf s block priority out v a) r c ns cs o
+      → makes (s .bench .own) v block priority (seenOf s v a) a ≡ some m → MakeGives (madeStep s out m) r c ns cs o
+      → MakeGives (actedOf s block priority out v a) r c ns cs o
   acts-made m r c ns cs o e q t = rw (acted-by s v block priority out a s (some m) e q) t
 
 -- ---- what the rules make
@@ -71,12 +71,12 @@ module _ (h : Head) (e o p q names counts out : List ℕ) (v : ℕ) where
   abbrev b : Bench
   b = benchFrom h e o p q
 
-  abbrev s : State
-  s = heldWith b names counts
+  abbrev s : Core
+  s = coreWith b names counts
 
   -- nothing is made
   abbrev Still : Block → ℕ → Act → Type 0
-  Still block priority a = ActGives (actedOf s block priority out v a) makings.Nothing b names counts out
+  Still block priority a = MakeGives (actedOf s block priority out v a) makings.Nothing b names counts out
 
   asked : (a k : ℕ) → Tested s out → v ≤ lastView → Before a k → Making names counts out v a k
   asked a k t l x = record { lists = t .usable .lists; room = t .room; early = l; before = x }
@@ -104,7 +104,7 @@ module _ (h : Head) (e o p q names counts out : List ℕ) (v : ℕ) where
       vote-making x = asked a k x l (subst FoundBefore t (f .before))
 
       pub vote-acts : (x : ActedHead) (e′ o′ ns cs out′ : List ℕ) → LogMade h e o names counts out v a k x e′ o′ ns cs out′
-          → ActGives (actedOf s noBlock 0 out v voting) (x .answer) (benchFrom (x .head) e′ o′ p q) ns cs out′
+          → MakeGives (actedOf s noBlock 0 out v voting) (x .answer) (benchFrom (x .head) e′ o′ p q) ns cs out′
       vote-acts x e′ o′ ns cs out′ m =
           acts-made s noBlock 0 out v voting (logFrom names counts a k (h .own) v) (x .answer) (benchFrom (x .head) e′ o′ p q) ns cs out′
           (changed-voting s v) (vote-made ∙ ap (λ (y : Found). votedFor (h .own) v (foundLog names counts y)) t) (m .whole p q)
@@ -113,7 +113,7 @@ module _ (h : Head) (e o p q names counts out : List ℕ) (v : ℕ) where
 
   -- the candidate, as the code found it
   abbrev Candidate : Grade → Type 0
-  Candidate g = Gives (usedOf (heldWith (benchFrom h e o [] []) names counts) v proposing) names counts (logsPlace (v - 1)) g
+  Candidate g = Gives (usedOf (coreWith (benchFrom h e o [] []) names counts) v proposing) names counts (logsPlace (v - 1)) g
 
   candidate : (g : Grade) → Candidate g → Gives (usedOf s v proposing) names counts (logsPlace (v - 1)) g
   candidate g w = record { log = w .log ∙ used-whole h e o p q names counts v proposing; placed = w .placed }
@@ -168,7 +168,7 @@ module _ (h : Head) (e o p q names counts out : List ℕ) (v : ℕ) where
 
         pub propose-acts : (a : ℕ) → a ≡ placeOf (logsPlace (v - 1)) i → k < mostBlocks → (z : ActedHead) (p′ q′ ns cs out′ : List ℕ)
             → ProposalMade h p q names counts out v a k block priority z p′ q′ ns cs out′
-            → ActGives (actedOf s block priority out v proposing) (z .answer) (benchFrom (z .head) e o p′ q′) ns cs out′
+            → MakeGives (actedOf s block priority out v proposing) (z .answer) (benchFrom (z .head) e o p′ q′) ns cs out′
         propose-acts a at few z p′ q′ ns cs out′ m =
             let l = length-at names counts a k in
             acts-made s block priority out v proposing (proposalFrom names counts a k block (h .own) v priority) (z .answer)

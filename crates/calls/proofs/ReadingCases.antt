@@ -22,10 +22,10 @@ use Rattle.agreement.proofs.TallyLaws.{supporters-placed}
 use Rattle.agreement.proofs.EmptyLaws.{empty-senders, empty-supporters}
 use Rattle.bench.specs.Layout.{isEven, logsPlace}
 use Rattle.bench.specs.Calendar.{Act, actAt, gradeRead, viewOf, placeIn}
-use Rattle.bench.specs.Calls.{State}
+use Rattle.bench.specs.Calls.{Core}
 use Rattle.bench.specs.Record.{Bench, benchFrom, ofView, agreementOf, beatOf}
 use Rattle.bench.specs.ByRecord.{usedOf}
-use Rattle.bench.specs.Answers.{heldWith}
+use Rattle.bench.specs.Answers.{coreWith}
 use Rattle.bench.specs.Readings.{agreementBefore, readOfGrade, amongOfGrade, orEmpty, sendersRead, supportersRead, ReadingGives}
 use Rattle.bench.specs.declared.Head.{Head}
 use Rattle.bench.specs.declared.Counted.{Counted}
@@ -102,8 +102,8 @@ module _ (h : Head) (e o names counts : List ℕ) (v place : ℕ) (r : Grade) wh
   abbrev b : Bench
   b = benchFrom h e o [] []
 
-  abbrev s : State
-  s = heldWith b names counts
+  abbrev s : Core
+  s = coreWith b names counts
 
   module _ (u : Gives (usedOf s v (actAt place)) names counts (logsPlace (v - 1)) r) where
     abbrev Reads : Counted → Type 0
@@ -155,23 +155,23 @@ module _ (h : Head) (e o names counts : List ℕ) (v place : ℕ) (r : Grade) wh
 -- ---- the act of the head's beat
 
 pub read-now : (h : Head) (e o names counts : List ℕ) (beat : ℕ) (c : Counted) → beat ≡ beatOf (bare h)
-    → ReadingGives (heldWith (benchFrom h e o [] []) names counts) (viewOf beat) (actAt (placeIn beat)) c
-    → ReadingGives (heldWith (benchFrom h e o [] []) names counts) (viewOf (beatOf (bare h))) (actAt (placeIn (beatOf (bare h)))) c
+    → ReadingGives (coreWith (benchFrom h e o [] []) names counts) (viewOf beat) (actAt (placeIn beat)) c
+    → ReadingGives (coreWith (benchFrom h e o [] []) names counts) (viewOf (beatOf (bare h))) (actAt (placeIn (beatOf (bare h)))) c
 read-now h e o names counts beat c at w =
-    subst (λ (k : ℕ). ReadingGives (heldWith (benchFrom h e o [] []) names counts) (viewOf k) (actAt (placeIn k)) c) at w
+    subst (λ (k : ℕ). ReadingGives (coreWith (benchFrom h e o [] []) names counts) (viewOf k) (actAt (placeIn k)) c) at w
 
 -- the proposals do not matter
-pub read-whole : (h : Head) (e o p q names counts : List ℕ) (v : ℕ) (a : Act) (c : Counted) → ReadingGives (heldWith (benchFrom h e o [] []) names counts) v a c
-    → ReadingGives (heldWith (benchFrom h e o p q) names counts) v a c
+pub read-whole : (h : Head) (e o p q names counts : List ℕ) (v : ℕ) (a : Act) (c : Counted) → ReadingGives (coreWith (benchFrom h e o [] []) names counts) v a c
+    → ReadingGives (coreWith (benchFrom h e o p q) names counts) v a c
 read-whole h e o p q names counts v a c w =
-    let x : usedOf (heldWith (benchFrom h e o [] []) names counts) v a ≡ usedOf (heldWith (benchFrom h e o p q) names counts) v a = used-whole h e o p q names counts v a in
+    let x : usedOf (coreWith (benchFrom h e o [] []) names counts) v a ≡ usedOf (coreWith (benchFrom h e o p q) names counts) v a = used-whole h e o p q names counts v a in
     let y : agreementBefore (benchFrom h e o [] []) v ≡ agreementBefore (benchFrom h e o p q) v =
     same-before (benchFrom h e o p q) (benchFrom h e o [] []) v refl refl in
     record {
       grade = record { log = w .grade .log ∙ x; placed = w .grade .placed };
       supporters = w .supporters
           ∙ ap (λ (L : Option Log). behind names counts (logsPlace (v - 1)) (agreementBefore (benchFrom h e o [] []) v) (orEmpty L) (gradeRead a)) x
-          ∙ ap (λ (g : Agreement). behind names counts (logsPlace (v - 1)) g (orEmpty (usedOf (heldWith (benchFrom h e o p q) names counts) v a)) (gradeRead a)) y;
+          ∙ ap (λ (g : Agreement). behind names counts (logsPlace (v - 1)) g (orEmpty (usedOf (coreWith (benchFrom h e o p q) names counts) v a)) (gradeRead a)) y;
       fewSupporters = w .fewSupporters;
       senders = w .senders ∙ ap (λ (g : Agreement). heard g (gradeRead a)) y;
       fewSenders = w .fewSenders;

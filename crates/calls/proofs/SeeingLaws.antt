@@ -31,10 +31,10 @@ use Rattle.agreement.proofs.EmptyLaws.{empty-grade, empty-choice}
 use Rattle.bench.specs.Layout.{isEven, logsPlace, proposalsPlace, decidedPlace}
 use Rattle.bench.specs.Calendar.{Act, voting, snapping, actAt, gradeRead}
 use Rattle.bench.specs.Acts.{usedFirst}
-use Rattle.bench.specs.Calls.{State}
+use Rattle.bench.specs.Calls.{Core}
 use Rattle.bench.specs.Record.{Bench, benchFrom, ofView, agreementOf, proposedIn, proposalsOf}
 use Rattle.bench.specs.ByRecord.{usedOf, seenOf}
-use Rattle.bench.specs.Answers.{lentAs, heldWith}
+use Rattle.bench.specs.Answers.{coreWith}
 use Rattle.bench.specs.Tested.{Usable}
 use Rattle.bench.proofs.ActLaws.{usedOf-first, usedOf-later, usedOf-snapping, same-used}
 use Rattle.bench.proofs.Slots.{proposals-slot}
@@ -98,11 +98,11 @@ module _ (h : Head) (e o names counts : List ℕ) (v place : ℕ) where
   b = benchFrom h e o [] []
 
   abbrev Used : Grade → Type 0
-  Used r = Gives (usedOf (heldWith b names counts) v (actAt place)) names counts (logsPlace (v - 1)) r
+  Used r = Gives (usedOf (coreWith b names counts) v (actAt place)) names counts (logsPlace (v - 1)) r
 
   pub used-late : 2 < place → Used Nothing
   used-late l = record {
-    log = sym (ap (usedOf (heldWith b names counts) v) (late-act place l) ∙ usedOf-snapping (heldWith b names counts) v);
+    log = sym (ap (usedOf (coreWith b names counts) v) (late-act place l) ∙ usedOf-snapping (coreWith b names counts) v);
     placed = tt;
   }
 
@@ -113,8 +113,8 @@ module _ (h : Head) (e o names counts : List ℕ) (v place : ℕ) where
   used-not-first z l = rw (z, usedOf-first, first-unused place l) (record { log = refl; placed = tt })
 
   module _ (later : v ≡ 0 → ⊥) (few : place ≤ 2) (base : ℕ) (at : base ≡ logsPlace (v - 1)) (x : Bool) (q : x ≡ isEven (v - 1)) (r : Grade) where
-    used-later : gradeOf names counts (logsPlace (v - 1)) (agreementOf b (v - 1)) place ≡ usedOf (heldWith b names counts) v (actAt place)
-    used-later = rw (usedOf-later (heldWith b names counts) v (actAt place) later, grade-read place few)
+    used-later : gradeOf names counts (logsPlace (v - 1)) (agreementOf b (v - 1)) place ≡ usedOf (coreWith b names counts) v (actAt place)
+    used-later = rw (usedOf-later (coreWith b names counts) v (actAt place) later, grade-read place few)
 
     given : (g : Agreement) → g ≡ agreementOf b (v - 1) → Gives (gradeOf names counts base g place) names counts base r → Used r
     given g y w = record {
@@ -130,9 +130,9 @@ module _ (h : Head) (e o names counts : List ℕ) (v place : ℕ) where
 
 -- no array but those of the agreements matters to it
 used-same : (h : Head) (e o p s p′ s′ names counts : List ℕ) (v : ℕ) (a : Act)
-    → usedOf (heldWith (benchFrom h e o p s) names counts) v a ≡ usedOf (heldWith (benchFrom h e o p′ s′) names counts) v a
+    → usedOf (coreWith (benchFrom h e o p s) names counts) v a ≡ usedOf (coreWith (benchFrom h e o p′ s′) names counts) v a
 used-same h e o p s p′ s′ names counts v a =
-    same-used (heldWith (benchFrom h e o p′ s′) names counts) (heldWith (benchFrom h e o p s) names counts) v a refl refl refl
+    same-used (coreWith (benchFrom h e o p′ s′) names counts) (coreWith (benchFrom h e o p s) names counts) v a refl refl refl refl
 
 -- ---- the proposals of the view
 
@@ -165,14 +165,14 @@ module _ (o : Option Log) (names counts : List ℕ) (v : ℕ) (r : Grade) (w : G
 -- ---- the vote
 
 module _ (h : Head) (e o p s names counts : List ℕ) (v : ℕ) where
-  abbrev whole : State
-  whole = heldWith (benchFrom h e o p s) names counts
+  abbrev whole : Core
+  whole = coreWith (benchFrom h e o p s) names counts
 
   -- the proposals do not matter to the log used
-  pub used-whole : (a : Act) → usedOf (heldWith (benchFrom h e o [] []) names counts) v a ≡ usedOf whole v a
+  pub used-whole : (a : Act) → usedOf (coreWith (benchFrom h e o [] []) names counts) v a ≡ usedOf whole v a
   used-whole a = used-same h e o [] [] p s names counts v a
 
-  module _ (r : Grade) (g : Gives (usedOf (heldWith (benchFrom h e o [] []) names counts) v voting) names counts (logsPlace (v - 1)) r) where
+  module _ (r : Grade) (g : Gives (usedOf (coreWith (benchFrom h e o [] []) names counts) v voting) names counts (logsPlace (v - 1)) r) where
     pub ballot-none : r ≡ Nothing → Finds (ballotOf whole v) names counts Nowhere
     ballot-none t = record { log = ap (ballot (seenOf whole v voting .choose)) (seen-none _ names counts v r g t .log ∙ used-whole voting); before = tt }
 
@@ -192,11 +192,11 @@ module _ (h : Head) (e o p s names counts : List ℕ) (v : ℕ) where
 
       room : lacksRoom names counts proposalsPlace ≡ false
       room =
-          let (n, m) = lists-roomy (lentAs names counts) (u .lists) in
+          let (n, m) = lists-roomy names counts (u .lists) in
           rw (le-ltb (length names) (proposalsPlace + span) (omega arith), le-ltb (length counts) (proposalsPlace + span) (omega arith))
 
       lock-within : within names counts a k ≡ true
-      lock-within = before-within (lentAs names counts) (u .lists) a k (lock .before)
+      lock-within = before-within names counts (u .lists) a k (lock .before)
 
       short : (i : ℕ) → i < mostSenders → getD (filed .lengths) i 0 ≤ mostBlocks
       short = proposed-short (benchFrom h e o p s) (within-limits (benchFrom h e o p s) (u .limits) .1) v

@@ -21,11 +21,11 @@ use Rattle.message.proofs.WrittenFields.{length-message}
 use Rattle.message.proofs.Inside.{room-yes, written-inside, count-made, same-count, same-holds, same-log, content-made, priority-made}
 use Rattle.agreement.proofs.BytesLaws.{same-filed, same-proposal-filed}
 use Rattle.bench.specs.Layout.{isEven, logsPlace, proposalsPlace, mostBytes}
-use Rattle.bench.specs.Calls.{acted, State}
+use Rattle.bench.specs.Calls.{acted, Core}
 use Rattle.bench.specs.Record.{agreementOf, proposalsOf, Bench, benchFrom}
 use Rattle.bench.specs.ByRecord.{Outcome, logOutcome, proposalOutcome, fileLog, fileProposal, fileMessage, taken}
-use Rattle.bench.specs.Answers.{lentAs, heldWith, contentMade, madeReply, ReceiveGives, ActGives}
-use Rattle.calls.specs.Steps.{LogFiled, EvenFiled, OddFiled, ProposalFiled, Making, madeStep, LogMade, ProposalMade}
+use Rattle.bench.specs.Answers.{contentMade, madeReply, coreWith}
+use Rattle.calls.specs.Steps.{LogFiled, EvenFiled, OddFiled, ProposalFiled, Making, madeStep, LogMade, ProposalMade, TakeGives, MakeGives}
 use Rattle.bench.specs.declared.Head.{Head}
 use Rattle.bench.specs.declared.Taken.{Taken}
 use Rattle.bench.specs.declared.Made.{Made}
@@ -51,7 +51,7 @@ module _ {names counts out : List ℕ} {v a k : ℕ} (p : Making names counts ou
 
   -- a log of n blocks has room
   made-room : (n : ℕ) → n ≤ mostBlocks → roomFor out names counts a k n ≡ true
-  made-room n h = let o = long in room-yes out names counts a k n h (before-within (lentAs names counts) (p .lists) a k (p .before)) (omega arith)
+  made-room n h = let o = long in room-yes out names counts a k n h (before-within names counts (p .lists) a k (p .before)) (omega arith)
 
   makeable : (m : Meaning) → length (logOf m) ≤ mostBlocks → said m .view ≡ v
       → AllBelow (2 ^ 64) (namesOf (logOf m)) → AllBelow (2 ^ 16) (countsOf (logOf m)) → Makeable out m
@@ -63,21 +63,21 @@ module _ {names counts out : List ℕ} {v a k : ℕ} (p : Making names counts ou
 
 -- ---- filed from the buffer
 
-module _ (out : List ℕ) (m : Meaning) (w : Makeable out m) (s : State) (v i : ℕ) where
+module _ (out : List ℕ) (m : Meaning) (w : Makeable out m) (s : Core) (v i : ℕ) where
   log-filed : fileLog s (put out 0 (bytesOf m)) v i ≡ fileLog s (bytesOf m) v i
   log-filed =
       ap (logOutcome s v)
-      (same-filed (s .lent .names) (s .lent .counts) (logsPlace v) i (put out 0 (bytesOf m)) (bytesOf m) (same-count out m (w .room))
+      (same-filed (s .names) (s .counts) (logsPlace v) i (put out 0 (bytesOf m)) (bytesOf m) (same-count out m (w .room))
       (same-holds out m (w .room) (w .few)) (same-log out m (w .room) (w .names) (w .counts)) (agreementOf (s .bench) v))
 
   proposal-filed : (priority : ℕ) → fileProposal s (put out 0 (bytesOf m)) v i priority ≡ fileProposal s (bytesOf m) v i priority
   proposal-filed priority =
       ap (proposalOutcome s)
-      (same-proposal-filed (s .lent .names) (s .lent .counts) proposalsPlace i (put out 0 (bytesOf m)) (bytesOf m) (same-count out m (w .room))
+      (same-proposal-filed (s .names) (s .counts) proposalsPlace i (put out 0 (bytesOf m)) (bytesOf m) (same-count out m (w .room))
       (same-holds out m (w .room) (w .few)) (same-log out m (w .room) (w .names) (w .counts)) (proposalsOf (s .bench) v) priority)
 
 -- by its kind
-filed-same : (out : List ℕ) (m : Meaning) → Makeable out m → (s : State) → fileMessage s (put out 0 (bytesOf m)) m ≡ fileMessage s (bytesOf m) m
+filed-same : (out : List ℕ) (m : Meaning) → Makeable out m → (s : Core) → fileMessage s (put out 0 (bytesOf m)) m ≡ fileMessage s (bytesOf m) m
 filed-same out (logMessage m) w s = rw (file-log s _ m, file-log s _ m) (log-filed out (logMessage m) w s (m .view) (m .sender))
 filed-same out (proposalMessage m priority) w s =
     rw (file-proposal s _ m, file-proposal s _ m) (proposal-filed out (proposalMessage m priority) w s (m .view) (m .sender) priority)
@@ -105,16 +105,16 @@ proposal-reply out m priority k w h e =
 
 -- ---- written, filed from the buffer and answered
 
-module _ (s : State) (out : List ℕ) (m : Meaning) (w : Makeable out m) (a : Made) (o : List ℕ) (y : Taken) (c : Bench) (ns cs : List ℕ) where
-  made-acts : o ≡ put out 0 (bytesOf m) → madeReply (put out 0 (bytesOf m)) a ≡ acted (some m) → ReceiveGives (taken (fileMessage s o m)) y c ns cs
-      → ActGives (madeStep s out m) a c ns cs o
+module _ (s : Core) (out : List ℕ) (m : Meaning) (w : Makeable out m) (a : Made) (o : List ℕ) (y : Taken) (c : Bench) (ns cs : List ℕ) where
+  made-acts : o ≡ put out 0 (bytesOf m) → madeReply (put out 0 (bytesOf m)) a ≡ acted (some m) → TakeGives (taken (fileMessage s o m)) y c ns cs
+      → MakeGives (madeStep s out m) a c ns cs o
   made-acts e q r =
       let x : fileMessage s o m ≡ fileMessage s (bytesOf m) m = ap (λ (l : List ℕ). fileMessage s l m) e ∙ filed-same out m w s in
       record {
         answered = ap (λ (l : List ℕ). madeReply l a) e ∙ q;
         bench = r .bench ∙ ap (λ (z : Outcome). z .held .bench) x;
-        nameList = r .nameList ∙ ap (λ (z : Outcome). z .held .lent .names) x;
-        countList = r .countList ∙ ap (λ (z : Outcome). z .held .lent .counts) x;
+        nameList = r .nameList ∙ ap (λ (z : Outcome). z .held .names) x;
+        countList = r .countList ∙ ap (λ (z : Outcome). z .held .counts) x;
         buffer = e;
       }
 
@@ -140,7 +140,7 @@ module _ (h : Head) (names counts out : List ℕ) (v a k : ℕ) (hn : (i : ℕ) 
         let few = p .before .1 in
         let w = makeable p (logMessage m) (omega arith) refl names-fit counts-fit in
         let z = written-inside (roomFor out names counts a k k) out (logMessage m) r o (made-room p k few) x .1 in
-        record { whole = λ q s. made-acts (heldWith (benchFrom h e d q s) names counts) out (logMessage m) w (makings.Log k) o (f .answer) (benchFrom (f .head) e′ d′ q s) ns cs z (log-reply out m k w l) (rw file-log (y .whole q s)) }
+        record { whole = λ q s. made-acts (coreWith (benchFrom h e d q s) names counts) out (logMessage m) w (makings.Log k) o (f .answer) (benchFrom (f .head) e′ d′ q s) ns cs z (log-reply out m k w l) (rw file-log (y .whole q s)) }
 
   -- by the parity of the view
   module _ (e d : List ℕ) (p : Making names counts out v a k) (x : Writes (writeLogOf out names counts a k (h .own) v) r o) (y : Bool) (u : y ≡ isEven v) where
@@ -172,6 +172,6 @@ module _ (h : Head) (names counts out : List ℕ) (v a k : ℕ) (hn : (i : ℕ) 
         let z = written-inside (roomFor out names counts a k (k + 1)) out (proposalMessage m priority) r o (made-room p (k + 1) (omega arith)) x .1 in
         record {
           whole = λ e d.
-              made-acts (heldWith (benchFrom h e d q s) names counts) out (proposalMessage m priority) w (makings.Proposal (k + 1)) o (f .answer) (benchFrom (f .head) e d q′ s′) ns cs z
+              made-acts (coreWith (benchFrom h e d q s) names counts) out (proposalMessage m priority) w (makings.Proposal (k + 1)) o (f .answer) (benchFrom (f .head) e d q′ s′) ns cs z
               (proposal-reply out m priority (k + 1) w (tp .fits) l) (rw file-proposal (y .whole e d));
         }

@@ -22,14 +22,16 @@ use Rattle.message.specs.Logs.{Block, Log}
 use Rattle.message.specs.Store.{logAt, logFrom, proposalFrom}
 use Rattle.bench.specs.Record.{Bench, benchFrom, beatOf, anyPlace, namesBeyond}
 use Rattle.bench.specs.Calendar.{voting, deciding}
-use Rattle.bench.specs.Layout.{shortLists, mostBytes, isEven}
-use Rattle.bench.specs.Calls.{acted, State, Step, openTo}
+use Rattle.bench.specs.Layout.{mostBytes, isEven, tooShort}
+use Rattle.bench.specs.Calls.{acted, openTo, refused, Core}
 use Rattle.bench.specs.Causes.{messageCauses}
 use Rattle.bench.specs.Acts.{outAfter}
 use Rattle.bench.specs.Tested.{Before}
-use Rattle.bench.specs.ByRecord.{refuse, fileLog, fileProposal, fileMessage, taken, usedOf, seenOf, withMade, settled, snappedBy}
-use Rattle.bench.specs.Answers.{lentAs, heldWith, ReceiveGives, ActGives}
+use Rattle.bench.specs.ByRecord.{Effect, fileLog, fileProposal, fileMessage, taken, usedOf, seenOf, withMade, settled, snappedBy}
+use Rattle.bench.specs.Answers.{coreWith, takenReply, madeReply}
 use Rattle.bench.specs.declared.Head.{Head}
+use Rattle.bench.specs.declared.Taken.{Taken}
+use Rattle.bench.specs.declared.Made.{Made}
 use Rattle.bench.specs.declared.ReceivedHead.{ReceivedHead}
 use Rattle.bench.specs.Readings.{orEmpty}
 use Rattle.bench.specs.declared.ActedHead.{ActedHead}
@@ -55,11 +57,26 @@ badSets n m =
     || (anyPlace (λ (i : ℕ). member (m .voters) i && member (m .equivocators) i)
     || (anyPlace (outside m (m .one .senders)) || anyPlace (outside m (m .two .senders)))))))
 
+-- ---- answered so, and record, lists and buffer left so: as ReceiveGives and ActGives of bench's Answers say it of a call
+
+pub record TakeGives (t : Effect) (a : Taken) (b : Bench) (names counts : List ℕ) : Type 0 where
+  pub answered : takenReply a ≡ t .answer .reply
+  pub bench : b ≡ t .core .bench
+  pub nameList : names ≡ t .core .names
+  pub countList : counts ≡ t .core .counts
+
+pub record MakeGives (t : Effect) (a : Made) (b : Bench) (names counts out : List ℕ) : Type 0 where
+  pub answered : madeReply out a ≡ t .answer .reply
+  pub bench : b ≡ t .core .bench
+  pub nameList : names ≡ t .core .names
+  pub countList : counts ≡ t .core .counts
+  pub buffer : out ≡ t .answer .out
+
 -- ---- a message filed, or taken: whatever the arrays that it does not concern
 
 pub record LogFiled (h : Head) (even odd names counts bytes : List ℕ) (v i : ℕ) (r : ReceivedHead) (even′ odd′ names′ counts′ : List ℕ) : Type 0 where
   pub whole : (proposed priorities : List ℕ)
-      → ReceiveGives (taken (fileLog (heldWith (benchFrom h even odd proposed priorities) names counts) bytes v i))
+      → TakeGives (taken (fileLog (coreWith (benchFrom h even odd proposed priorities) names counts) bytes v i))
       (r .answer) (benchFrom (r .head) even′ odd′ proposed priorities) names′ counts′
 
 -- in the slot of an even view, whatever the other holds; and in that of an odd one
@@ -72,27 +89,31 @@ pub record OddFiled (h : Head) (odd names counts bytes : List ℕ) (v i : ℕ) (
 pub record ProposalFiled (h : Head) (proposed priorities names counts bytes : List ℕ) (v i priority : ℕ) (r : ReceivedHead)
     (proposed′ priorities′ names′ counts′ : List ℕ) : Type 0 where
   pub whole : (even odd : List ℕ)
-      → ReceiveGives (taken (fileProposal (heldWith (benchFrom h even odd proposed priorities) names counts) bytes v i priority))
+      → TakeGives (taken (fileProposal (coreWith (benchFrom h even odd proposed priorities) names counts) bytes v i priority))
       (r .answer) (benchFrom (r .head) even odd proposed′ priorities′) names′ counts′
 
+-- refused by k: nothing else changes
+abbrev pub untaken : Core → ℕ → Effect
+untaken c k = record { core = c; answer = record { reply = refused k; out = [] } }
+
 -- Receive in a gathering: judged by the message
-abbrev pub receives : State → List ℕ → Step
-receives s bytes =
-    judgedBy (messageCauses (s .bench .n) (beatOf (s .bench)) bytes) (refuse s []) (taken (fileMessage s bytes (meaningIn bytes)))
+abbrev pub receives : Core → List ℕ → Effect
+receives c bytes =
+    judgedBy (messageCauses (c .bench .n) (beatOf (c .bench)) bytes) (untaken c) (taken (fileMessage c bytes (meaningIn bytes)))
 
 -- and of a message that was read as m: by its window alone
-abbrev pub receivesAs : State → List ℕ → Meaning → Step
-receivesAs s bytes m = pick (openTo m (beatOf (s .bench))) (taken (fileMessage s bytes m)) (refuse s [] 21)
+abbrev pub receivesAs : Core → List ℕ → Meaning → Effect
+receivesAs c bytes m = pick (openTo m (beatOf (c .bench))) (taken (fileMessage c bytes m)) (untaken c 21)
 
 pub record LogTaken (h : Head) (even odd names counts bytes : List ℕ) (head : message.Head) (r : ReceivedHead) (even′ odd′ names′ counts′ : List ℕ) : Type 0 where
   pub whole : (proposed priorities : List ℕ)
-      → ReceiveGives (receivesAs (heldWith (benchFrom h even odd proposed priorities) names counts) bytes (logMessage (contentOf bytes head)))
+      → TakeGives (receivesAs (coreWith (benchFrom h even odd proposed priorities) names counts) bytes (logMessage (contentOf bytes head)))
       (r .answer) (benchFrom (r .head) even′ odd′ proposed priorities) names′ counts′
 
 pub record ProposalTaken (h : Head) (proposed priorities names counts bytes : List ℕ) (head : message.Head) (priority : ℕ) (r : ReceivedHead)
     (proposed′ priorities′ names′ counts′ : List ℕ) : Type 0 where
   pub whole : (even odd : List ℕ)
-      → ReceiveGives (receivesAs (heldWith (benchFrom h even odd proposed priorities) names counts) bytes (proposalMessage (contentOf bytes head) priority))
+      → TakeGives (receivesAs (coreWith (benchFrom h even odd proposed priorities) names counts) bytes (proposalMessage (contentOf bytes head) priority))
       (r .answer) (benchFrom (r .head) even odd proposed′ priorities′) names′ counts′
 
 -- ---- a log in the lists
@@ -115,13 +136,13 @@ abbrev pub ballot : (Log → Log) → Option Log → Option Log
 ballot choose none = none
 ballot choose (some lock) = some (choose lock)
 
-abbrev pub ballotOf : State → ℕ → Option Log
-ballotOf s v = ballot (seenOf s v voting .choose) (usedOf s v voting)
+abbrev pub ballotOf : Core → ℕ → Option Log
+ballotOf c v = ballot (seenOf c v voting .choose) (usedOf c v voting)
 
 -- ---- a message made: filed as one's own, and at the front of the buffer
 
-abbrev pub madeStep : State → List ℕ → Meaning → Step
-madeStep s out m = record { held = withMade s (some m); answer = record { reply = acted (some m); out = outAfter (some m) out } }
+abbrev pub madeStep : Core → List ℕ → Meaning → Effect
+madeStep c out m = record { core = withMade c (some m); answer = record { reply = acted (some m); out = outAfter (some m) out } }
 
 -- an act that proposes nothing uses no offered block
 abbrev pub noBlock : Block
@@ -129,32 +150,32 @@ noBlock = record { name = 0; count = 0 }
 
 -- what making one of the blocks at place a asks
 pub record Making (names counts out : List ℕ) (v a k : ℕ) : Type 0 where
-  pub lists : shortLists (lentAs names counts) ≡ false
+  pub lists : tooShort names counts ≡ false
   pub room : ltb (length out) mostBytes ≡ false
   pub early : v ≤ lastView
   pub before : Before a k
 
 pub record LogMade (h : Head) (even odd names counts out : List ℕ) (v a k : ℕ) (r : ActedHead) (even′ odd′ names′ counts′ out′ : List ℕ) : Type 0 where
   pub whole : (proposed priorities : List ℕ)
-      → ActGives (madeStep (heldWith (benchFrom h even odd proposed priorities) names counts) out (logFrom names counts a k (h .own) v))
+      → MakeGives (madeStep (coreWith (benchFrom h even odd proposed priorities) names counts) out (logFrom names counts a k (h .own) v))
       (r .answer) (benchFrom (r .head) even′ odd′ proposed priorities) names′ counts′ out′
 
 pub record ProposalMade (h : Head) (proposed priorities names counts out : List ℕ) (v a k : ℕ) (block : Block) (priority : ℕ) (r : ActedHead)
     (proposed′ priorities′ names′ counts′ out′ : List ℕ) : Type 0 where
   pub whole : (even odd : List ℕ)
-      → ActGives (madeStep (heldWith (benchFrom h even odd proposed priorities) names counts) out (proposalFrom names counts a k block (h .own) v priority))
+      → MakeGives (madeStep (coreWith (benchFrom h even odd proposed priorities) names counts) out (proposalFrom names counts a k block (h .own) v priority))
       (r .answer) (benchFrom (r .head) even odd proposed′ priorities′) names′ counts′ out′
 
 -- ---- record and lists were left so
 
-pub record Leaves (t : State) (b : Bench) (names counts : List ℕ) : Type 0 where
+pub record Leaves (t : Core) (b : Bench) (names counts : List ℕ) : Type 0 where
   pub bench : b ≡ t .bench
-  pub nameList : names ≡ t .lent .names
-  pub countList : counts ≡ t .lent .counts
+  pub nameList : names ≡ t .names
+  pub countList : counts ≡ t .counts
 
 -- what deciding asks: the lists are long enough, and the decided length within its limit
 pub record Decidable (h : Head) (names counts : List ℕ) : Type 0 where
-  pub lists : shortLists (lentAs names counts) ≡ false
+  pub lists : tooShort names counts ≡ false
   pub short : h .decided ≤ mostBlocks
 
 pub record Settling (h : Head) (names counts : List ℕ) (a k : ℕ) : Type 0 where
@@ -164,18 +185,18 @@ pub record Settling (h : Head) (names counts : List ℕ) (a k : ℕ) : Type 0 wh
 -- a decision, whatever the arrays
 pub record Settles (h : Head) (names counts : List ℕ) (o : Option Log) (r : Head) (names′ counts′ : List ℕ) : Type 0 where
   pub whole : (even odd proposed priorities : List ℕ)
-      → Leaves (settled (heldWith (benchFrom h even odd proposed priorities) names counts) o) (benchFrom r even odd proposed priorities) names′ counts′
+      → Leaves (settled (coreWith (benchFrom h even odd proposed priorities) names counts) o) (benchFrom r even odd proposed priorities) names′ counts′
 
 pub record Decides (h : Head) (even odd names counts : List ℕ) (v : ℕ) (r : Head) (names′ counts′ : List ℕ) : Type 0 where
   pub whole : (proposed priorities : List ℕ)
-      → Leaves (settled (heldWith (benchFrom h even odd proposed priorities) names counts) (usedOf (heldWith (benchFrom h even odd proposed priorities) names counts) v deciding))
+      → Leaves (settled (coreWith (benchFrom h even odd proposed priorities) names counts) (usedOf (coreWith (benchFrom h even odd proposed priorities) names counts) v deciding))
       (benchFrom r even odd proposed priorities) names′ counts′
 
 -- a snapshot, whatever the proposals and the lists
 pub record Snaps (h : Head) (even odd : List ℕ) (v : ℕ) (second : Bool) (r : Head) (even′ odd′ : List ℕ) : Type 0 where
   pub whole : (proposed priorities names counts : List ℕ)
-      → heldWith (benchFrom r even′ odd′ proposed priorities) names counts
-      ≡ snappedBy (pick second two one) v (heldWith (benchFrom h even odd proposed priorities) names counts)
+      → coreWith (benchFrom r even′ odd′ proposed priorities) names counts
+      ≡ snappedBy (pick second two one) v (coreWith (benchFrom h even odd proposed priorities) names counts)
 
 -- ---- the counts beside a grade of one agreement
 

@@ -2,9 +2,9 @@
 ghost use Rattle.bench.specs.Calendar.{viewOf, placeIn, actAt};
 ghost use Rattle.bench.specs.Record.{benchFrom, beatOf};
 ghost use Rattle.bench.specs.ByRecord.{over, actedOf};
-ghost use Rattle.bench.specs.Answers.{heldWith, ActGives};
+ghost use Rattle.bench.specs.Answers.{coreWith};
 ghost use Rattle.bench.specs.Tested.{Tested};
-ghost use Rattle.calls.specs.Steps.{bare};
+ghost use Rattle.calls.specs.Steps.{bare, MakeGives};
 use super::deciding::decide;
 use super::deciding::snap_view;
 use super::making::propose;
@@ -28,8 +28,8 @@ pub(crate) fn act_at(
     count: u16,
     priority: u64,
 ) -> ActedHead
-    requires { ⌜ Tested (heldWith (benchFrom h (now even) (now odd) (now proposed) (now priorities)) (now names) (now counts)) (now out) ⌝ }
-    ensures { λ r. ⌜ ActGives (actedOf (over (heldWith (benchFrom h (now (even .entry)) (now (odd .entry)) (now (proposed .entry)) (now (priorities .entry))) (now (names .entry)) (now (counts .entry))))
+    requires { ⌜ Tested (coreWith (benchFrom h (now even) (now odd) (now proposed) (now priorities)) (now names) (now counts)) (now out) ⌝ }
+    ensures { λ r. ⌜ MakeGives (actedOf (over (coreWith (benchFrom h (now (even .entry)) (now (odd .entry)) (now (proposed .entry)) (now (priorities .entry))) (now (names .entry)) (now (counts .entry))))
         (record { name = name; count = count }) priority (now (out .entry)) (viewOf (beatOf (bare h))) (actAt (placeIn (beatOf (bare h))))) (r .answer)
         (benchFrom (r .head) (now (even .exit)) (now (odd .exit)) (now (proposed .exit)) (now (priorities .exit))) (now (names .exit)) (now (counts .exit)) (now (out .exit)) ⌝ }
 {

@@ -4,8 +4,8 @@ ghost use mathlib.Core.Path.{_≡_};
 ghost use Rattle.agreement.specs.Filing.{wordOf};
 ghost use Rattle.bench.specs.Calls.{took};
 ghost use Rattle.bench.specs.Record.{benchFrom};
-ghost use Rattle.bench.specs.Answers.{heldWith, takenReply, ReceiveGives};
-ghost use Rattle.calls.specs.Steps.{receives, EvenFiled, OddFiled, LogTaken, ProposalFiled, ProposalTaken};
+ghost use Rattle.bench.specs.Answers.{coreWith, takenReply};
+ghost use Rattle.calls.specs.Steps.{receives, TakeGives, EvenFiled, OddFiled, LogTaken, ProposalFiled, ProposalTaken};
 use super::calendar::takes_logs;
 use super::calendar::takes_proposals;
 use super::record::beat_of;
@@ -204,7 +204,7 @@ pub(crate) fn take(
     counts: &mut [u16],
     bytes: &[u8],
 ) -> ReceivedHead
-    ensures { λ r. ⌜ ReceiveGives (receives (heldWith (benchFrom h (now (even .entry)) (now (odd .entry)) (now (proposed .entry)) (now (priorities .entry))) (now (names .entry)) (now (counts .entry)))
+    ensures { λ r. ⌜ TakeGives (receives (coreWith (benchFrom h (now (even .entry)) (now (odd .entry)) (now (proposed .entry)) (now (priorities .entry))) (now (names .entry)) (now (counts .entry)))
         (now (bytes .entry))) (r .answer)
         (benchFrom (r .head) (now (even .exit)) (now (odd .exit)) (now (proposed .exit)) (now (priorities .exit))) (now (names .exit)) (now (counts .exit)) ⌝ }
 {

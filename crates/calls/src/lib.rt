@@ -16,7 +16,7 @@ mod seeing;
 ghost use Rattle.bench.specs.Calendar.{viewOf, placeIn, actAt};
 ghost use Rattle.bench.specs.Record.{benchOf, beatOf};
 ghost use Rattle.bench.specs.ByRecord.{openOf, beginOf, receiveOf, actOf};
-ghost use Rattle.bench.specs.Answers.{lentAs, stateOf, OpenGives, BeginGives, ReceiveGives, ActGives};
+ghost use Rattle.bench.specs.Answers.{lentAs, coreWith, stateOf, OpenGives, BeginGives, ReceiveGives, ActGives};
 ghost use Rattle.bench.specs.Readings.{ReadingGives};
 use bench::Acted;
 use bench::Bench;
@@ -160,7 +160,7 @@ pub fn act(
 
 // What the act of the record's beat reads of the agreement before. It is no call: nothing is refused, and nothing changes.
 pub fn reading(bench: Bench, names: &[u64], counts: &[u16]) -> Counted
-    ensures { λ r. ⌜ ReadingGives (stateOf bench (now (names .entry)) (now (counts .entry))) (viewOf (beatOf (benchOf bench))) (actAt (placeIn (beatOf (benchOf bench)))) r ⌝ }
+    ensures { λ r. ⌜ ReadingGives (coreWith (benchOf bench) (now (names .entry)) (now (counts .entry))) (viewOf (beatOf (benchOf bench))) (actAt (placeIn (beatOf (benchOf bench)))) r ⌝ }
 {
     let even = bench.even;
     let odd = bench.odd;

@@ -5,9 +5,8 @@ ghost use mathlib.Core.Bool.{_||_};
 ghost use lib.Dec.{ltb};
 ghost use mathlib.Core.List.{[]};
 ghost use Rattle.message.specs.Limits.{lastView};
-ghost use Rattle.bench.specs.Layout.{outOfRange, shortLists};
+ghost use Rattle.bench.specs.Layout.{outOfRange, tooShort};
 ghost use Rattle.bench.specs.Record.{benchFrom, anyPlace, namesBeyond, beyond};
-ghost use Rattle.bench.specs.Answers.{lentAs};
 ghost use Rattle.calls.specs.Steps.{badSets};
 use agreement::MOST_SENDERS;
 use agreement::Marks;
@@ -31,7 +30,7 @@ pub(crate) fn is_out_of_range(n: u8, own: u8) -> bool
 
 // A lent list is too short.
 pub(crate) fn is_short(names: &[u64], counts: &[u16]) -> bool
-    ensures { λ r. ⌜ r ≡ shortLists (lentAs (now (names .entry)) (now (counts .entry))) ⌝ }
+    ensures { λ r. ⌜ r ≡ tooShort (now (names .entry)) (now (counts .entry)) ⌝ }
 {
     (names.len() < LEAST_LENT) | (counts.len() < LEAST_LENT)
 }

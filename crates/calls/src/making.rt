@@ -5,9 +5,9 @@ ghost use Rattle.message.specs.Store.{logFrom, proposalFrom};
 ghost use Rattle.bench.specs.Calendar.{proposing, voting};
 ghost use Rattle.bench.specs.Record.{benchFrom};
 ghost use Rattle.bench.specs.ByRecord.{actedOf};
-ghost use Rattle.bench.specs.Answers.{heldWith, ActGives};
+ghost use Rattle.bench.specs.Answers.{coreWith};
 ghost use Rattle.bench.specs.Tested.{Tested};
-ghost use Rattle.calls.specs.Steps.{Making, LogMade, ProposalMade, noBlock};
+ghost use Rattle.calls.specs.Steps.{Making, MakeGives, LogMade, ProposalMade, noBlock};
 use super::filing::file_even;
 use super::filing::file_odd;
 use super::filing::file_proposal;
@@ -126,8 +126,8 @@ pub(crate) fn propose(
     count: u16,
     priority: u64,
 ) -> ActedHead
-    requires { ⌜ Tested (heldWith (benchFrom h (now even) (now odd) (now proposed) (now priorities)) (now names) (now counts)) (now out) ⌝ }
-    ensures { λ r. ⌜ ActGives (actedOf (heldWith (benchFrom h (now (even .entry)) (now (odd .entry)) (now (proposed .entry)) (now (priorities .entry))) (now (names .entry)) (now (counts .entry)))
+    requires { ⌜ Tested (coreWith (benchFrom h (now even) (now odd) (now proposed) (now priorities)) (now names) (now counts)) (now out) ⌝ }
+    ensures { λ r. ⌜ MakeGives (actedOf (coreWith (benchFrom h (now (even .entry)) (now (odd .entry)) (now (proposed .entry)) (now (priorities .entry))) (now (names .entry)) (now (counts .entry)))
         (record { name = name; count = count }) priority (now (out .entry)) v proposing) (r .answer)
         (benchFrom (r .head) (now (even .exit)) (now (odd .exit)) (now (proposed .exit)) (now (priorities .exit))) (now (names .exit)) (now (counts .exit)) (now (out .exit)) ⌝ }
 {
@@ -173,8 +173,8 @@ pub(crate) fn vote(
     out: &mut [u8],
     v: u32,
 ) -> ActedHead
-    requires { ⌜ Tested (heldWith (benchFrom h (now even) (now odd) (now proposed) (now priorities)) (now names) (now counts)) (now out) ⌝ }
-    ensures { λ r. ⌜ ActGives (actedOf (heldWith (benchFrom h (now (even .entry)) (now (odd .entry)) (now (proposed .entry)) (now (priorities .entry))) (now (names .entry)) (now (counts .entry)))
+    requires { ⌜ Tested (coreWith (benchFrom h (now even) (now odd) (now proposed) (now priorities)) (now names) (now counts)) (now out) ⌝ }
+    ensures { λ r. ⌜ MakeGives (actedOf (coreWith (benchFrom h (now (even .entry)) (now (odd .entry)) (now (proposed .entry)) (now (priorities .entry))) (now (names .entry)) (now (counts .entry)))
         noBlock 0 (now (out .entry)) v voting) (r .answer)
         (benchFrom (r .head) (now (even .exit)) (now (odd .exit)) (now (proposed .exit)) (now (priorities .exit))) (now (names .exit)) (now (counts .exit)) (now (out .exit)) ⌝ }
 {

@@ -4,7 +4,7 @@ ghost use mathlib.Core.List.{[]};
 ghost use Rattle.bench.specs.Calendar.{viewOf, placeIn, actAt};
 ghost use Rattle.bench.specs.Record.{benchFrom, beatOf};
 ghost use Rattle.bench.specs.ByRecord.{beginOf, receiveOf, actOf};
-ghost use Rattle.bench.specs.Answers.{heldWith, BeginGives, ReceiveGives, ActGives};
+ghost use Rattle.bench.specs.Answers.{heldWith, coreWith, BeginGives, ReceiveGives, ActGives};
 ghost use Rattle.bench.specs.Readings.{ReadingGives};
 use super::acts::act_at;
 use super::beginning::begun;
@@ -165,7 +165,7 @@ pub fn act(
 // What the act of the head's beat reads of the agreement before; proposals do not matter to it. It is no call: nothing is refused,
 // and nothing changes.
 pub fn reading(h: Head, even: &[u8; 32], odd: &[u8; 32], names: &[u64], counts: &[u16]) -> Counted
-    ensures { λ r. ⌜ ReadingGives (heldWith (benchFrom h (now (even .entry)) (now (odd .entry)) [] []) (now (names .entry)) (now (counts .entry)))
+    ensures { λ r. ⌜ ReadingGives (coreWith (benchFrom h (now (even .entry)) (now (odd .entry)) [] []) (now (names .entry)) (now (counts .entry)))
         (viewOf (beatOf (benchFrom h (now (even .entry)) (now (odd .entry)) [] [])))
         (actAt (placeIn (beatOf (benchFrom h (now (even .entry)) (now (odd .entry)) [] [])))) r ⌝ }
 {

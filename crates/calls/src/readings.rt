@@ -8,7 +8,7 @@ ghost use Rattle.agreement.specs.Grades.{Placed, logOf};
 ghost use Rattle.agreement.specs.Tally.{supportersOf};
 ghost use Rattle.bench.specs.Calendar.{actAt};
 ghost use Rattle.bench.specs.Record.{benchFrom, ofView};
-ghost use Rattle.bench.specs.Answers.{heldWith};
+ghost use Rattle.bench.specs.Answers.{coreWith};
 ghost use Rattle.bench.specs.Readings.{orEmpty, ReadingGives};
 ghost use Rattle.calls.specs.Steps.{CountsIn};
 use super::record::is_even;
@@ -79,7 +79,7 @@ pub(crate) fn read_at(
     v: u32,
     place: u8,
 ) -> Counted
-    ensures { λ r. ⌜ ReadingGives (heldWith (benchFrom h (now (even .entry)) (now (odd .entry)) [] []) (now (names .entry)) (now (counts .entry))) v (actAt place) r ⌝ }
+    ensures { λ r. ⌜ ReadingGives (coreWith (benchFrom h (now (even .entry)) (now (odd .entry)) [] []) (now (names .entry)) (now (counts .entry))) v (actAt place) r ⌝ }
 {
     let grade = used(h, even, odd, names, counts, v, place);
     let nobody = Counted {

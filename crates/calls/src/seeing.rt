@@ -10,7 +10,7 @@ ghost use Rattle.bench.specs.Layout.{logsPlace, proposalsPlace};
 ghost use Rattle.bench.specs.Calendar.{actAt};
 ghost use Rattle.bench.specs.Record.{benchFrom, ofView, proposedIn};
 ghost use Rattle.bench.specs.ByRecord.{usedOf};
-ghost use Rattle.bench.specs.Answers.{heldWith};
+ghost use Rattle.bench.specs.Answers.{coreWith};
 ghost use Rattle.bench.specs.Tested.{Usable};
 ghost use Rattle.calls.specs.Steps.{Finds, ballotOf};
 use super::record::is_even;
@@ -69,7 +69,7 @@ pub(crate) fn used(
     v: u32,
     place: u8,
 ) -> Grade
-    ensures { λ r. ⌜ Gives (usedOf (heldWith (benchFrom h (now (even .entry)) (now (odd .entry)) [] []) (now (names .entry)) (now (counts .entry))) v (actAt place))
+    ensures { λ r. ⌜ Gives (usedOf (coreWith (benchFrom h (now (even .entry)) (now (odd .entry)) [] []) (now (names .entry)) (now (counts .entry))) v (actAt place))
         (now (names .entry)) (now (counts .entry)) (logsPlace (v - 1)) r ⌝ }
 {
     if 2 < place {
@@ -128,8 +128,8 @@ pub(crate) fn ballot(
     counts: &[u16],
     v: u32,
 ) -> Found
-    requires { ⌜ Usable (heldWith (benchFrom h (now even) (now odd) (now proposed) (now priorities)) (now names) (now counts)) ⌝ }
-    ensures { λ r. ⌜ Finds (ballotOf (heldWith (benchFrom h (now (even .entry)) (now (odd .entry)) (now (proposed .entry)) (now (priorities .entry))) (now (names .entry)) (now (counts .entry))) v)
+    requires { ⌜ Usable (coreWith (benchFrom h (now even) (now odd) (now proposed) (now priorities)) (now names) (now counts)) ⌝ }
+    ensures { λ r. ⌜ Finds (ballotOf (coreWith (benchFrom h (now (even .entry)) (now (odd .entry)) (now (proposed .entry)) (now (priorities .entry))) (now (names .entry)) (now (counts .entry))) v)
         (now (names .entry)) (now (counts .entry)) r ⌝ }
 {
     let Grade::Longest(i, blocks) = used(h, even, odd, names, counts, v, 1) else {

@@ -7,7 +7,7 @@ use Rattle.message.proofs.CauseLaws.{passes}
 use Rattle.agreement.specs.Sets.{isYes}
 use Rattle.bench.specs.Terms.{Terms, Seat, seatOf}
 use Rattle.bench.specs.Layout.{Lent, outOfRange, shortLists}
-use Rattle.bench.specs.Calls.{Call, begin, receive, act, refused, done, State, Opening, Step, Typed}
+use Rattle.bench.specs.Calls.{Call, begin, receive, act, refused, done, State, coreOf, Opening, Step, Typed}
 use Rattle.bench.specs.Causes.{openCauses}
 use Rattle.bench.specs.History.{History, fresh, openRefusal}
 use Rattle.bench.specs.Record.{freshBench, Bench}
@@ -28,12 +28,12 @@ either-way onLent x (receive bytes) = refl
 either-way onLent x (act block priority out) = refl
 
 -- each call agrees with the history's
-agrees-by-value : (S : Seat) (x : State) (p : History) (c : Call) → Tie S x p → Typed c → Agrees S x p c (call theBench byValue x c)
+agrees-by-value : (S : Seat) (x : State) (p : History) (c : Call) → Tie S (coreOf x) p → Typed c → Agrees S x p c (call theBench byValue x c)
 agrees-by-value S x p (begin b) t y = begin-agrees S x p t b
 agrees-by-value S x p (receive bytes) t y = receive-agrees S x p t bytes (y .0)
 agrees-by-value S x p (act block priority out) t y = act-agrees S x p t block priority out y
 
-agrees : (S : Seat) (w : Way) (x : State) (p : History) (c : Call) → Tie S x p → Typed c → Agrees S x p c (call theBench w x c)
+agrees : (S : Seat) (w : Way) (x : State) (p : History) (c : Call) → Tie S (coreOf x) p → Typed c → Agrees S x p c (call theBench w x c)
 agrees S w x p c t y = subst (Agrees S x p c) (sym (either-way w x c)) (agrees-by-value S x p c t y)
 
 -- ---- Open
@@ -56,10 +56,10 @@ module _ (T : Terms) (own : ℕ) (l : Lent) where
 opens-rightly : OpensRightly theBench
 opens-rightly = record { refuses = λ T own l k t e. refuses T own l k e; opens = λ T own l t e. opens T own l e }
 
-opens-tied : (T : Terms) (own : ℕ) (x : State) → OpenedAs theBench T own x → Tie (seatOf T own) x (fresh (seatOf T own))
+opens-tied : (T : Terms) (own : ℕ) (x : State) → OpenedAs theBench T own x → Tie (seatOf T own) (coreOf x) (fresh (seatOf T own))
 opens-tied T own x o =
     let g = given-fresh T own (x .lent) (x .bench) (o .given) in
-    subst (λ (b : Bench). Tie (seatOf T own) (record { bench = b; lent = x .lent }) (fresh (seatOf T own))) (g .2)
+    subst (λ (b : Bench). Tie (seatOf T own) (record { bench = b; names = x .lent .names; counts = x .lent .counts }) (fresh (seatOf T own))) (g .2)
     (open-tie T own (x .lent) (g .0) (g .1) (o .typed .names .0) (o .typed .counts .0))
 
 -- ---- the theorem
@@ -67,7 +67,7 @@ opens-tied T own x o =
 pub bench-simulates : Simulation theBench
 bench-simulates = record {
   rightly = opens-rightly;
-  Rel = Tie;
+  Rel = λ S x p. Tie S (coreOf x) p;
   opens = opens-tied;
   same-answer = λ S w x p c t y. agrees S w x p c t y .answered;
   keeps = λ S w x p c t y. agrees S w x p c t y .tied;

@@ -14,7 +14,7 @@ use Rattle.message.proofs.Acceptance.{length-blocks}
 use Rattle.message.proofs.TestLaws.{either}
 use Rattle.agreement.specs.Sets.{isYes}
 use Rattle.bench.specs.Layout.{mostBytes, Lent}
-use Rattle.bench.specs.Calls.{Call, begin, receive, act, refused, done, State, Opening, Step}
+use Rattle.bench.specs.Calls.{Call, begin, receive, act, refused, done, State, coreOf, Opening, Step}
 use Rattle.bench.specs.ByRecord.{openOf, beginOf, receiveOf, actOf}
 use Rattle.bench.specs.Answers.{heldWith, startReply, takenReply, madeReply, OpenGives, BeginGives, ReceiveGives, ActGives}
 use Rattle.calls.specs.Steps.{Leaves}
@@ -96,7 +96,7 @@ module _ (s : List ℕ) (i a : ℕ) where
 -- ---- the call of event i, by what it gave
 
 module _ (s : List ℕ) (i a : ℕ) (x : State) (b : Bench) (ns cs : List ℕ) where
-  gives : (c : Call) (r : Answered) → callAt s i a ≡ c → Leaves (stepOf x c .held) b ns cs
+  gives : (c : Call) (r : Answered) → callAt s i a ≡ c → Leaves (coreOf (stepOf x c .held)) b ns cs
       → answerText (stepOf x c .held .bench .decided) (isYes (stepOf x c .held .bench .parted)) r ≡ lineOf c (stepOf x c)
       → EventGives (callAt s i a) x r b ns cs
   gives c r e f g = rw e (record { leaves = f; line = rw (f .bench) g })

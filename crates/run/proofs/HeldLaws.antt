@@ -8,7 +8,7 @@ use lib.ListN.{length, length-append}
 use Rattle.message.specs.Numbers.{put}
 use Rattle.message.proofs.PartLaws.{put-nil, put-append}
 use Rattle.agreement.specs.Sets.{isYes}
-use Rattle.bench.specs.Calls.{Call, State}
+use Rattle.bench.specs.Calls.{Call, State, coreOf}
 use Rattle.bench.specs.Answers.{heldWith}
 use Rattle.calls.specs.Steps.{Leaves}
 use Rattle.bench.specs.Record.{Bench}
@@ -85,7 +85,7 @@ remains-next z r l p xs ys q m f g = record {
   whole = f .whole ∙ put-append l p xs ys ∙ rw (g .text, g .place);
 }
 
-pub leaves-state : (y : State) (b : Bench) (ns cs : List ℕ) → Leaves y b ns cs → heldWith b ns cs ≡ y
+pub leaves-state : (y : State) (b : Bench) (ns cs : List ℕ) → Leaves (coreOf y) b ns cs → heldWith b ns cs ≡ y
 leaves-state y b ns cs f = rw (f .bench, f .nameList, f .countList)
 
 -- nothing is left to write

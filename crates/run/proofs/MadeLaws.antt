@@ -15,7 +15,7 @@ use Rattle.message.proofs.TestLaws.{or-false, or-true}
 use Rattle.message.proofs.Acceptance.{length-blocks}
 use Rattle.message.proofs.WrittenFields.{length-message}
 use Rattle.bench.specs.Layout.{mostBytes, Lent}
-use Rattle.bench.specs.Calls.{Reply, refused, done, took, acted, State}
+use Rattle.bench.specs.Calls.{Reply, refused, done, took, acted, State, coreOf}
 use Rattle.bench.specs.Acts.{outAfter}
 use Rattle.bench.specs.Record.{Bench}
 use Rattle.bench.specs.ByRecord.{actOf}
@@ -122,11 +122,11 @@ made-as-said x s k out e h =
 -- ---- the calls before it
 
 made-after : (s : List ℕ) (l : Lent) (k : ℕ) (out : List ℕ) (at : ℕ) → at ≡ bodyPlace s k → (o : Bench) → o ≡ openingOf s l .bench
-    → (b : Bench) (ns cs : List ℕ) → Leaves (heldAfter (heldWith o (l .names) (l .counts)) (firstCalls s k)) b ns cs → (n : ℕ) (after : List ℕ)
+    → (b : Bench) (ns cs : List ℕ) → Leaves (coreOf (heldAfter (heldWith o (l .names) (l .counts)) (firstCalls s k))) b ns cs → (n : ℕ) (after : List ℕ)
     → GivesMade (madeBy (actOf (heldWith b ns cs) (offeredAt s at) (priorityAt s at) out .answer .reply)) out n after
     → GivesMade (madeBy (actAfter (openedOn s l) s k out .answer .reply)) out n after
 made-after s l k out at p o e b ns cs f n after g =
-    let h : Leaves (heldAfter (openedOn s l) (firstCalls s k)) b ns cs = rw e at f in
+    let h : Leaves (coreOf (heldAfter (openedOn s l) (firstCalls s k))) b ns cs = rw e at f in
     rw (leaves-state (heldAfter (openedOn s l) (firstCalls s k)) b ns cs h, p) at g
 
 -- ---- of a whole roll

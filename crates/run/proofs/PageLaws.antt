@@ -17,7 +17,7 @@ use Rattle.agreement.specs.declared.Grade.{Grade}
 use Rattle.agreement.specs.declared.Grade.the-variants.{Longest, Nothing}
 use Rattle.bench.specs.Layout.{Lent}
 use Rattle.bench.specs.Calendar.{Act}
-use Rattle.bench.specs.Calls.{State}
+use Rattle.bench.specs.Calls.{Core, coreOf}
 use Rattle.bench.specs.Answers.{heldWith}
 use Rattle.bench.specs.Readings.{ReadingGives}
 use Rattle.calls.specs.Steps.{Leaves}
@@ -113,7 +113,7 @@ module _ (c : Counted) (at : ℕ) (l : List ℕ) (p : ℕ) (m : List ℕ) where
   unfolding readBytes
   read-longest i k e h = rw e h
 
-pub counts-few : (x : State) (v : ℕ) (a : Act) (c : Counted) → ReadingGives x v a c → Few c
+pub counts-few : (x : Core) (v : ℕ) (a : Act) (c : Counted) → ReadingGives x v a c → Few c
 counts-few x v a c g = record { supporters = g .fewSupporters; senders = g .fewSenders }
 
 -- ---- the page
@@ -138,10 +138,10 @@ page-length b c = simp (length-append, slot-length, grade-length)
 -- ---- the calls before it
 
 page-given : (s : List ℕ) (l : Lent) (k : ℕ) (o : Bench) → o ≡ openingOf s l .bench → (b : Bench) (ns cs : List ℕ)
-    → Leaves (heldAfter (heldWith o (l .names) (l .counts)) (firstCalls s k)) b ns cs → (c : Counted) → ReadsNow (heldWith b ns cs) c
+    → Leaves (coreOf (heldAfter (heldWith o (l .names) (l .counts)) (firstCalls s k))) b ns cs → (c : Counted) → ReadsNow (heldWith b ns cs) c
     → (before : List ℕ) (r : ℕ) (after : List ℕ) → Puts (pageBytes b c) 0 before r after → GivesPage false (heldAt s l k) l before r ns cs after
 page-given s l k o e b ns cs f c g before r after p =
-    let h : Leaves (heldAt s l k) b ns cs = rw e at f in
+    let h : Leaves (coreOf (heldAt s l k)) b ns cs = rw e at f in
     record {
       answered = let n = page-length b c in p .place ∙ omega arith;
       nameList = h .nameList;

@@ -10,7 +10,7 @@ use Rattle.message.specs.Numbers.{put}
 use Rattle.agreement.specs.Limits.{mostSenders}
 use Rattle.agreement.specs.Sets.{isYes}
 use Rattle.bench.specs.Layout.{Lent}
-use Rattle.bench.specs.Calls.{Call, State}
+use Rattle.bench.specs.Calls.{Call, State, coreOf}
 use Rattle.bench.specs.Record.{Bench}
 use Rattle.calls.specs.Steps.{Leaves}
 use Rattle.bench.specs.declared.Start.{Start}
@@ -84,7 +84,7 @@ pub record Remains (z : List ℕ) (r : ℕ) (text : List ℕ) (p : ℕ) (xs : Li
 
 -- the call c was made on x: it left record and lists so, and its line is that of the answer
 pub record EventGives (c : Call) (x : State) (a : Answered) (b : Bench) (names counts : List ℕ) : Type 0 where
-  pub leaves : Leaves (stepOf x c .held) b names counts
+  pub leaves : Leaves (coreOf (stepOf x c .held)) b names counts
   pub line : answerText (b .decided) (isYes (b .parted)) a ≡ lineOf c (stepOf x c)
 
 -- ---- the first k calls of a roll s, made on x; the lines are written from place `at` on where they are asked for
@@ -107,7 +107,7 @@ pub record LinesFit (prints : Bool) (i p : ℕ) (text : List ℕ) : Type 0 where
 
 -- made: record, lists and text are left so, and the text ends at r
 pub record Runs (prints : Bool) (s : List ℕ) (k : ℕ) (x : State) (at : ℕ) (before : List ℕ) (b : Bench) (r : ℕ) (names counts after : List ℕ) : Type 0 where
-  pub leaves : Leaves (heldAfter x (firstCalls s k)) b names counts
+  pub leaves : Leaves (coreOf (heldAfter x (firstCalls s k))) b names counts
   pub lines : Puts (told prints (linesOf x (firstCalls s k))) at before r after
   pub short : prints ≡ true → r ≤ mostRoll
 
