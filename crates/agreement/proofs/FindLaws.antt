@@ -18,21 +18,21 @@ use Rattle.agreement.specs.Sets.{weigh, ones, count, member}
 use Rattle.agreement.specs.Reading.{Reading, maySupport, supports, Grade, longest}
 use Rattle.agreement.specs.Record.{Agreement, agreementFrom, isSender, lacksRoom, overlong, readingOf, one, two, snapshotNow, snapped}
 use Rattle.agreement.specs.Grades.{gradeAmong, snapshotFor, gradeOf, Gives}
-use Rattle.agreement.specs.Steps.{Readable, SetOf, backing, Climbing, Climbed}
+use Rattle.agreement.specs.Steps.{Readable, SetOf, backing, Extending, Extended}
 use Rattle.agreement.specs.declared.Snapshot.{Snapshot}
 use Rattle.agreement.specs.declared.Marks.{Marks}
 use Rattle.agreement.specs.declared.Grade as answer
 use Rattle.agreement.specs.declared.Grade.the-variants.{Longest, Nothing}
 use Rattle.agreement.proofs.SetLaws.{weigh-mono, weigh-cong, weigh-none}
 use Rattle.agreement.proofs.LongestLaws.{longest-nothing, longest-by-length, record-heard}
-use Rattle.agreement.proofs.ClimbLaws.{back-empty}
+use Rattle.agreement.proofs.ExtendLaws.{back-empty}
 
 -- what following the majority asks
-pub climb-asks : (names counts lengths : List ℕ) (base voters equivocators among may all x : ℕ)
+pub extend-asks : (names counts lengths : List ℕ) (base voters equivocators among may all x : ℕ)
     → SetOf (λ (i : ℕ). member voters i && member among i) mostSenders may
     → all ≡ count mostSenders (λ (i : ℕ). member voters i || member equivocators i) → x ≡ count mostSenders (member may)
-    → Readable names counts base lengths → all < 2 * x → Climbing names counts base lengths may all
-climb-asks names counts lengths base voters equivocators among may all x both heard e ok h = record {
+    → Readable names counts base lengths → all < 2 * x → Extending names counts base lengths may all
+extend-asks names counts lengths base voters equivocators among may all x both heard e ok h = record {
   readable = ok;
   few =
       let m = weigh-mono mostSenders ones (member may) (λ (i : ℕ). member voters i || member equivocators i) (λ j l t.
@@ -68,7 +68,7 @@ module _ (names counts : List ℕ) (base : ℕ) (m : Marks) (lengths : List ℕ)
     unfolding Grade
     to-grade L q = let e = supporters L in omega arith
 
-    pub find-found : (r : answer.Grade) → Climbed names counts base lengths may all r → Gives (longest mostSenders ones R) names counts base r
+    pub find-found : (r : answer.Grade) → Extended names counts base lengths may all r → Gives (longest mostSenders ones R) names counts base r
     find-found Nothing c = absurd (c .top)
     find-found (Longest who l) c = record {
       log = sym (longest-by-length mostSenders ones R (record-heard mostSenders names counts base g among) (logAt names counts (placeOf base who) l)

@@ -26,8 +26,8 @@ pub mod ChoiceLaws
 -- Reading a grade:
 pub mod CountLaws
 pub mod NarrowLaws
-pub mod VoteLaws
-pub mod ClimbLaws
+pub mod MajorityLaws
+pub mod ExtendLaws
 pub mod FindLaws
 -- Counting supporters:
 pub mod TallyLaws

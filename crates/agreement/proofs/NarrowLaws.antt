@@ -15,7 +15,7 @@ use Rattle.message.proofs.LogLaws.{prefix-length, isPrefix-iff}
 use Rattle.message.proofs.ListedLaws.{length-at, prefix-one-more}
 use Rattle.agreement.specs.Limits.{mostSenders, placeOf}
 use Rattle.agreement.specs.Sets.{weigh, member, adding}
-use Rattle.agreement.specs.Steps.{SetOf, Walks, nextBlock, narrowed, runLength, alike, narrowedBy, Far, Next, Run}
+use Rattle.agreement.specs.Steps.{SetOf, Walks, nextBlock, narrowed, chunkLength, alike, narrowedBy, Far, Next, Chunk}
 use Rattle.agreement.proofs.CountLaws.{walk-start, walk-next, walk-below, walk-room, set-none, pass-skip, pass-yes, pass-no, pass-end}
 
 -- to have more than l is to have l + 1
@@ -33,7 +33,7 @@ module _ (names counts : List ℕ) where
       → r ≡ sameBlock (nextBlock names counts base l i) (nextBlock names counts base l j)
   next-same base l i j p q r d e f = f ∙ (λ k. sameBlock (blockAt names counts (d k + l)) (blockAt names counts (e k + l)))
 
-  -- ---- a run of blocks
+  -- ---- a chunk of blocks
 
   pub alike-none : (a b : ℕ) → true ≡ alike names counts a b 0
   unfolding alike
@@ -43,8 +43,8 @@ module _ (names counts : List ℕ) where
   unfolding alike
   alike-next a b i r x e f = let s : suc i ≡ i + 1 = omega arith in (λ k. e k && f k) ∙ ap (alike names counts a b) s
 
-  pub alike-all : (a b i : ℕ) (r : Bool) → r ≡ alike names counts a b i → i ≤ runLength → runLength ≤ i → r ≡ alike names counts a b runLength
-  alike-all a b i r e h g = let s : i ≡ runLength = omega arith in e ∙ ap (alike names counts a b) s
+  pub alike-all : (a b i : ℕ) (r : Bool) → r ≡ alike names counts a b i → i ≤ chunkLength → chunkLength ≤ i → r ≡ alike names counts a b chunkLength
+  alike-all a b i r e h g = let s : i ≡ chunkLength = omega arith in e ∙ ap (alike names counts a b) s
 
   -- a log that is a prefix is not longer
   short : (a b l y : ℕ) → isPrefix (logAt names counts a l) (logAt names counts b y) ≡ (isPrefix (logAt names counts a l) (logAt names counts b y) && (leb l y && true))
@@ -67,14 +67,14 @@ module _ (names counts : List ℕ) where
   join true false false w s h = refl
 
   -- l + k blocks are a prefix of a log where l blocks are, the log has so many, and the next k are the same
-  pub prefix-run : (a b l y k : ℕ) → isPrefix (logAt names counts a (l + k)) (logAt names counts b y)
+  pub prefix-chunk : (a b l y k : ℕ) → isPrefix (logAt names counts a (l + k)) (logAt names counts b y)
       ≡ (isPrefix (logAt names counts a l) (logAt names counts b y) && (leb (l + k) y && alike names counts (a + l) (b + l) k))
   unfolding alike
-  prefix-run a b l y zero =
+  prefix-chunk a b l y zero =
       let s : l ≡ l + 0 = omega arith in
       ap (λ (n : ℕ). isPrefix (logAt names counts a n) (logAt names counts b y)) (sym s) ∙ short a b l y
       ∙ ap (λ (n : ℕ). isPrefix (logAt names counts a l) (logAt names counts b y) && (leb n y && true)) s
-  prefix-run a b l y (suc k) =
+  prefix-chunk a b l y (suc k) =
       let s : l + suc k ≡ l + k + 1 = omega arith in
       let p : a + (l + k) ≡ a + l + k = omega arith in
       let q : b + (l + k) ≡ b + l + k = omega arith in
@@ -82,14 +82,14 @@ module _ (names counts : List ℕ) where
       let t = over (l + k) (l + suc k) y (omega arith) in
       ap (λ (n : ℕ). isPrefix (logAt names counts a n) (logAt names counts b y)) s
       ∙ prefix-one-more names counts a b (l + k) y
-      ∙ ap (λ (u : Bool). u && (ltb (l + k) y && same (a + (l + k)) (b + (l + k)))) (prefix-run a b l y k)
+      ∙ ap (λ (u : Bool). u && (ltb (l + k) y && same (a + (l + k)) (b + (l + k)))) (prefix-chunk a b l y k)
       ∙ (λ i. (z && (leb (l + k) y && alike names counts (a + l) (b + l) k)) && (t i && same (p i) (q i)))
       ∙ join z (leb (l + k) y) (leb (l + suc k) y) (alike names counts (a + l) (b + l) k) (same (a + l + k) (b + l + k))
       (λ h. le-leb (l + k) y (let x = leb-true (l + suc k) y h in omega arith))
 
-  pub far-run : (base : ℕ) (lengths : List ℕ) (followers l c far : ℕ) → l + runLength ≤ mostBlocks
-      → SetOf (narrowedBy names counts base lengths followers l c runLength) mostSenders far → Far names counts base lengths followers l c far
-  far-run base lengths followers l c far n s = record { some = λ h. (n, s) }
+  pub far-chunk : (base : ℕ) (lengths : List ℕ) (followers l c far : ℕ) → l + chunkLength ≤ mostBlocks
+      → SetOf (narrowedBy names counts base lengths followers l c chunkLength) mostSenders far → Far names counts base lengths followers l c far
+  far-chunk base lengths followers l c far n s = record { some = λ h. (n, s) }
 
   pub far-none : (base : ℕ) (lengths : List ℕ) (followers l c : ℕ) → Far names counts base lengths followers l c 0
   unfolding weigh member
@@ -153,38 +153,38 @@ module _ (names counts lengths : List ℕ) (followers base l c : ℕ) where
     pub narrow-end : left ≤ 0 → SetOf (narrowed names counts base lengths followers l (nextBlock names counts base l c)) mostSenders next
     narrow-end z = pass-end followers goes next i left (n .set) (n .walk) z (n .room)
 
--- ---- the same with the run of blocks at place a, which is c's
+-- ---- the same with the chunk of blocks at place a, which is c's
 
 pub record Running (names counts lengths : List ℕ) (followers base l c a i left next : ℕ) : Type 0 where
   pub walk : Walks followers i left
   pub room : i ≤ mostSenders
   pub place : a ≡ placeOf base c + l
-  pub set : SetOf (narrowedBy names counts base lengths followers l c runLength) i next
+  pub set : SetOf (narrowedBy names counts base lengths followers l c chunkLength) i next
 
 module _ (names counts lengths : List ℕ) (followers base l c : ℕ) where
   abbrev runs : ℕ → Bool
-  runs j = leb (l + runLength) (getD lengths j 0) && alike names counts (placeOf base c + l) (placeOf base j + l) runLength
+  runs j = leb (l + chunkLength) (getD lengths j 0) && alike names counts (placeOf base c + l) (placeOf base j + l) chunkLength
 
-  pub run-none : followers < 2 ^ mostSenders → Running names counts lengths followers base l c (placeOf base c + l) 0 followers 0
-  run-none h = record {
+  pub chunk-none : followers < 2 ^ mostSenders → Running names counts lengths followers base l c (placeOf base c + l) 0 followers 0
+  chunk-none h = record {
     walk = walk-start followers h;
     room = omega arith;
     place = refl;
-    set = set-none (narrowedBy names counts base lengths followers l c runLength);
+    set = set-none (narrowedBy names counts base lengths followers l c chunkLength);
   }
 
   module _ (a i left next : ℕ) (n : Running names counts lengths followers base l c a i left next) where
-    run-turn : 0 < left → (more : ℕ) → SetOf (narrowedBy names counts base lengths followers l c runLength) (i + 1) more
+    chunk-turn : 0 < left → (more : ℕ) → SetOf (narrowedBy names counts base lengths followers l c chunkLength) (i + 1) more
         → Running names counts lengths followers base l c a (i + 1) (left / 2) more
-    run-turn p more s =
+    chunk-turn p more s =
         record { walk = walk-next followers i left (n .walk); room = walk-room followers i left (n .walk) p; place = n .place; set = s }
 
-    pub run-skip : 0 < left → eqb (left % 2) 1 ≡ false → Running names counts lengths followers base l c a (i + 1) (left / 2) next
-    run-skip p e = run-turn p next (pass-skip followers runs next i left (n .set) (n .walk) e)
+    pub chunk-skip : 0 < left → eqb (left % 2) 1 ≡ false → Running names counts lengths followers base l c a (i + 1) (left / 2) next
+    chunk-skip p e = chunk-turn p next (pass-skip followers runs next i left (n .set) (n .walk) e)
 
     -- what a turn asks of the lists
-    pub run-asks : Next names counts base l → l + runLength ≤ mostBlocks → c < mostSenders → 0 < left → Run names counts base l a i
-    run-asks x few k p =
+    pub chunk-asks : Next names counts base l → l + chunkLength ≤ mostBlocks → c < mostSenders → 0 < left → Chunk names counts base l a i
+    chunk-asks x few k p =
         let y = x .inNames in
         let z = x .inCounts in
         let e = n .place in
@@ -198,19 +198,19 @@ module _ (names counts lengths : List ℕ) (followers base l c : ℕ) where
         }
 
     module _ (p : 0 < left) (e : eqb (left % 2) 1 ≡ true) (r : Bool)
-        (f : r ≡ (leb (l + runLength) (getD lengths i 0) && alike names counts a (placeOf base i + l) runLength)) where
-      run-found : runs i ≡ r
-      run-found =
-          sym (f ∙ ap (λ (z : ℕ). leb (l + runLength) (getD lengths i 0) && alike names counts z (placeOf base i + l) runLength) (n .place))
+        (f : r ≡ (leb (l + chunkLength) (getD lengths i 0) && alike names counts a (placeOf base i + l) chunkLength)) where
+      chunk-found : runs i ≡ r
+      chunk-found =
+          sym (f ∙ ap (λ (z : ℕ). leb (l + chunkLength) (getD lengths i 0) && alike names counts z (placeOf base i + l) chunkLength) (n .place))
 
-      pub run-yes : (more : ℕ) → r ≡ true → more ≡ adding next i → Running names counts lengths followers base l c a (i + 1) (left / 2) more
-      run-yes more t v =
-          run-turn p more
-          (subst (λ (z : ℕ). SetOf (narrowedBy names counts base lengths followers l c runLength) (i + 1) z) (sym v)
-          (pass-yes followers runs next i left (n .set) (n .walk) e (run-found ∙ t)))
+      pub chunk-yes : (more : ℕ) → r ≡ true → more ≡ adding next i → Running names counts lengths followers base l c a (i + 1) (left / 2) more
+      chunk-yes more t v =
+          chunk-turn p more
+          (subst (λ (z : ℕ). SetOf (narrowedBy names counts base lengths followers l c chunkLength) (i + 1) z) (sym v)
+          (pass-yes followers runs next i left (n .set) (n .walk) e (chunk-found ∙ t)))
 
-      pub run-no : r ≡ false → Running names counts lengths followers base l c a (i + 1) (left / 2) next
-      run-no t = run-turn p next (pass-no followers runs next i left (n .set) (n .walk) e (run-found ∙ t))
+      pub chunk-no : r ≡ false → Running names counts lengths followers base l c a (i + 1) (left / 2) next
+      chunk-no t = chunk-turn p next (pass-no followers runs next i left (n .set) (n .walk) e (chunk-found ∙ t))
 
-    pub run-end : left ≤ 0 → SetOf (narrowedBy names counts base lengths followers l c runLength) mostSenders next
-    run-end z = pass-end followers runs next i left (n .set) (n .walk) z (n .room)
+    pub chunk-end : left ≤ 0 → SetOf (narrowedBy names counts base lengths followers l c chunkLength) mostSenders next
+    chunk-end z = pass-end followers runs next i left (n .set) (n .walk) z (n .room)

@@ -54,8 +54,8 @@ narrowed names counts base lengths followers l x j =
     member followers j && (ltb l (getD lengths j 0) && sameBlock x (nextBlock names counts base l j))
 
 -- the same, whether or not the log has more than l blocks
-abbrev pub holding : List ℕ → List ℕ → ℕ → ℕ → ℕ → Block → ℕ → Bool
-holding names counts base followers l x j = member followers j && sameBlock x (nextBlock names counts base l j)
+abbrev pub haveBlock : List ℕ → List ℕ → ℕ → ℕ → ℕ → Block → ℕ → Bool
+haveBlock names counts base followers l x j = member followers j && sameBlock x (nextBlock names counts base l j)
 
 -- k blocks at place a are the k blocks at place b
 unfoldable pub alike : List ℕ → List ℕ → ℕ → ℕ → ℕ → Bool
@@ -63,26 +63,26 @@ alike names counts a b zero = true
 alike names counts a b (suc k) = alike names counts a b k && sameBlock (blockAt names counts (a + k)) (blockAt names counts (b + k))
 
 -- how many blocks are looked at together where the majority may go on
-abbrev pub runLength : ℕ
-runLength = 8
+abbrev pub chunkLength : ℕ
+chunkLength = 8
 
 -- of the followers, those whose log goes on after l blocks with the next k blocks at sender c's place
 abbrev pub narrowedBy : List ℕ → List ℕ → ℕ → List ℕ → ℕ → ℕ → ℕ → ℕ → ℕ → Bool
 narrowedBy names counts base lengths followers l c k j =
     member followers j && (leb (l + k) (getD lengths j 0) && alike names counts (placeOf base c + l) (placeOf base j + l) k)
 
--- that, for a run of blocks, or nobody
+-- that, for a chunk of blocks, or nobody
 pub record Far (names counts : List ℕ) (base : ℕ) (lengths : List ℕ) (followers : ℕ) (l c : ℕ) (far : ℕ) : Type 0 where
   pub some : 0 < count mostSenders (member far)
-      → (l + runLength ≤ mostBlocks) × SetOf (narrowedBy names counts base lengths followers l c runLength) mostSenders far
+      → (l + chunkLength ≤ mostBlocks) × SetOf (narrowedBy names counts base lengths followers l c chunkLength) mostSenders far
 
--- a run of blocks at place a, and one after l blocks at sender j's place, lie within the lists
-pub record Run (names counts : List ℕ) (base l a j : ℕ) : Type 0 where
+-- a chunk of blocks at place a, and one after l blocks at sender j's place, lie within the lists
+pub record Chunk (names counts : List ℕ) (base l a j : ℕ) : Type 0 where
   pub inNames : base + span ≤ length names
   pub inCounts : base + span ≤ length counts
-  pub few : l + runLength ≤ mostBlocks
-  pub fromNames : a + runLength ≤ length names
-  pub fromCounts : a + runLength ≤ length counts
+  pub few : l + chunkLength ≤ mostBlocks
+  pub fromNames : a + chunkLength ≤ length names
+  pub fromCounts : a + chunkLength ≤ length counts
   pub sender : j < mostSenders
 
 -- one block more at each sender's place lies within the lists
@@ -94,19 +94,19 @@ pub record Next (names counts : List ℕ) (base l : ℕ) : Type 0 where
 -- The majority vote (Boyer and Moore), after the followers below j: twice those that have the candidate's block are at most `weight` more
 -- than the followers, and twice those that have any other block at least `weight` fewer.
 pub record Leads (names counts : List ℕ) (base : ℕ) (followers : ℕ) (l who j best weight : ℕ) : Type 0 where
-  pub most : (x : Block) → 2 * count j (holding names counts base followers l x) + share (not (sameBlock x (nextBlock names counts base l best))) weight
+  pub most : (x : Block) → 2 * count j (haveBlock names counts base followers l x) + share (not (sameBlock x (nextBlock names counts base l best))) weight
       ≤ count j (member followers) + share (sameBlock x (nextBlock names counts base l best)) weight
   pub from : (best ≡ who) ⊎ (member followers best ≡ true)
 
 -- a block that more than half of the followers have is the one of sender c, who is a follower, or is `who`
-pub record Voted (names counts : List ℕ) (base : ℕ) (followers : ℕ) (l who c : ℕ) : Type 0 where
+pub record MajorityAt (names counts : List ℕ) (base : ℕ) (followers : ℕ) (l who c : ℕ) : Type 0 where
   pub place : c < mostSenders
-  pub led : (x : Block) → count mostSenders (member followers) < 2 * count mostSenders (holding names counts base followers l x)
+  pub led : (x : Block) → count mostSenders (member followers) < 2 * count mostSenders (haveBlock names counts base followers l x)
       → sameBlock x (nextBlock names counts base l c) ≡ true
   pub from : (c ≡ who) ⊎ (member followers c ≡ true)
 
 -- the senders that may support are no more than `all`, and more than half of it
-pub record Climbing (names counts : List ℕ) (base : ℕ) (lengths : List ℕ) (may : ℕ) (all : ℕ) : Type 0 where
+pub record Extending (names counts : List ℕ) (base : ℕ) (lengths : List ℕ) (may : ℕ) (all : ℕ) : Type 0 where
   pub readable : Readable names counts base lengths
   pub few : count mostSenders (member may) ≤ all
   pub enough : all < 2 * count mostSenders (member may)
@@ -127,7 +127,7 @@ abbrev pub TopOf : List ℕ → List ℕ → ℕ → List ℕ → ℕ → ℕ �
 TopOf names counts base lengths may all Nothing = ⊥
 TopOf names counts base lengths may all (Longest who l) = Top names counts base lengths may all who l
 
-pub record Climbed (names counts : List ℕ) (base : ℕ) (lengths : List ℕ) (may : ℕ) (all : ℕ) (r : Grade) : Type 0 where
+pub record Extended (names counts : List ℕ) (base : ℕ) (lengths : List ℕ) (may : ℕ) (all : ℕ) (r : Grade) : Type 0 where
   pub top : TopOf names counts base lengths may all r
 
 -- ---- counting supporters

@@ -14,7 +14,7 @@ ghost use Rattle.agreement.specs.Sets.{ones};
 ghost use Rattle.agreement.specs.Reading.{longest};
 ghost use Rattle.agreement.specs.Record.{agreementFrom, readingOf};
 ghost use Rattle.agreement.specs.Grades.{Gives, gradeAmong, snapshotFor, gradeOf};
-ghost use Rattle.agreement.specs.Steps.{Readable, SetOf, Next, Run, nextBlock, narrowed, runLength, alike, narrowedBy, Far, Voted, Climbing, Climbed};
+ghost use Rattle.agreement.specs.Steps.{Readable, SetOf, Next, Chunk, nextBlock, narrowed, chunkLength, alike, narrowedBy, Far, MajorityAt, Extending, Extended};
 use super::Grade;
 use super::Marks;
 use super::Snapshot;
@@ -30,7 +30,7 @@ use super::tally::senders;
 use message::MOST_BLOCKS;
 
 // How many blocks are looked at together where the majority may go on.
-const RUN: usize = 8;
+const CHUNK: usize = 8;
 
 // The block at a is the block at b.
 fn same_block(names: &[u64], counts: &[u16], a: usize, b: usize) -> bool
@@ -99,22 +99,22 @@ fn narrow(
     next
 }
 
-// The run of blocks at a is the run of blocks at b.
-fn same_run(names: &[u64], counts: &[u16], a: usize, b: usize) -> bool
-    requires { ⌜ ((a + runLength ≤ length (now names)) × (b + runLength ≤ length (now names))) × ((a + runLength ≤ length (now counts)) × (b + runLength ≤ length (now counts))) ⌝ }
-    ensures { λ r. ⌜ r ≡ alike (now (names .entry)) (now (counts .entry)) a b runLength ⌝ }
+// The chunk of blocks at a is the chunk of blocks at b.
+fn same_chunk(names: &[u64], counts: &[u16], a: usize, b: usize) -> bool
+    requires { ⌜ ((a + chunkLength ≤ length (now names)) × (b + chunkLength ≤ length (now names))) × ((a + chunkLength ≤ length (now counts)) × (b + chunkLength ≤ length (now counts))) ⌝ }
+    ensures { λ r. ⌜ r ≡ alike (now (names .entry)) (now (counts .entry)) a b chunkLength ⌝ }
 {
     let mut same = true;
     let mut i = 0;
-    while i < RUN {
+    while i < CHUNK {
         same = same & same_block(names, counts, a + i, b + i);
         i += 1;
     }
     same
 }
 
-// Sender j's log goes on after l blocks with the run of blocks at a.
-fn runs_on(
+// Sender j's log goes on after l blocks with the chunk of blocks at a.
+fn chunk_goes_on(
     names: &[u64],
     counts: &[u16],
     lengths: &[u8; 32],
@@ -123,16 +123,16 @@ fn runs_on(
     a: usize,
     j: usize,
 ) -> bool
-    requires { ⌜ Run (now names) (now counts) base l a j ⌝ }
-    ensures { λ r. ⌜ r ≡ (leb (l + runLength) (getD (now (lengths .entry)) j 0) && alike (now (names .entry)) (now (counts .entry)) a (placeOf base j + l) runLength) ⌝ }
+    requires { ⌜ Chunk (now names) (now counts) base l a j ⌝ }
+    ensures { λ r. ⌜ r ≡ (leb (l + chunkLength) (getD (now (lengths .entry)) j 0) && alike (now (names .entry)) (now (counts .entry)) a (placeOf base j + l) chunkLength) ⌝ }
 {
     let b = base as usize + MOST_BLOCKS * j + l;
     let blocks = wide(lengths[j]);
-    (l + RUN <= blocks) & same_run(names, counts, a, b)
+    (l + CHUNK <= blocks) & same_chunk(names, counts, a, b)
 }
 
-// Of the followers, those whose log goes on after l blocks with the run of blocks that stands there at sender c's place.
-fn narrow_run(
+// Of the followers, those whose log goes on after l blocks with the chunk of blocks that stands there at sender c's place.
+fn narrow_chunk(
     names: &[u64],
     counts: &[u16],
     lengths: &[u8; 32],
@@ -141,8 +141,8 @@ fn narrow_run(
     l: usize,
     c: usize,
 ) -> u32
-    requires { ⌜ (Next (now names) (now counts) base l) × ((l + runLength ≤ mostBlocks) × (c < mostSenders)) ⌝ }
-    ensures { λ r. ⌜ SetOf (narrowedBy (now (names .entry)) (now (counts .entry)) base (now (lengths .entry)) followers l c runLength) mostSenders r ⌝ }
+    requires { ⌜ (Next (now names) (now counts) base l) × ((l + chunkLength ≤ mostBlocks) × (c < mostSenders)) ⌝ }
+    ensures { λ r. ⌜ SetOf (narrowedBy (now (names .entry)) (now (counts .entry)) base (now (lengths .entry)) followers l c chunkLength) mostSenders r ⌝ }
 {
     let a = base as usize + MOST_BLOCKS * c + l;
     let mut next = 0u32;
@@ -154,7 +154,7 @@ fn narrow_run(
         left = left / 2;
         i += 1;
         if follows {
-            if runs_on(names, counts, lengths, base, l, a, j) {
+            if chunk_goes_on(names, counts, lengths, base, l, a, j) {
                 next = with_sender(next, j);
             }
         }
@@ -162,7 +162,7 @@ fn narrow_run(
     next
 }
 
-// The same where l is a number of whole runs, and nobody elsewhere: a run in which the majority leaves is taken block by block.
+// The same where l is a number of whole chunks, and nobody elsewhere: a chunk in which the majority leaves is taken block by block.
 fn narrow_far(
     names: &[u64],
     counts: &[u16],
@@ -175,17 +175,24 @@ fn narrow_far(
     requires { ⌜ (Next (now names) (now counts) base l) × (c < mostSenders) ⌝ }
     ensures { λ r. ⌜ Far (now (names .entry)) (now (counts .entry)) base (now (lengths .entry)) followers l c r ⌝ }
 {
-    if l % RUN == 0 {
-        return narrow_run(names, counts, lengths, followers, base, l, c);
+    if l % CHUNK == 0 {
+        return narrow_chunk(names, counts, lengths, followers, base, l, c);
     }
     0
 }
 
 // A sender that has, after l blocks, the block that more than half of the followers have there, if there is one: a majority
-// vote (Boyer and Moore), in one pass.
-fn vote(names: &[u64], counts: &[u16], followers: u32, base: u32, l: usize, who: usize) -> usize
+// majority_sender (Boyer and Moore), in one pass.
+fn majority_sender(
+    names: &[u64],
+    counts: &[u16],
+    followers: u32,
+    base: u32,
+    l: usize,
+    who: usize,
+) -> usize
     requires { ⌜ (Next (now names) (now counts) base l) × (who < mostSenders) ⌝ }
-    ensures { λ r. ⌜ Voted (now (names .entry)) (now (counts .entry)) base followers l who r ⌝ }
+    ensures { λ r. ⌜ MajorityAt (now (names .entry)) (now (counts .entry)) base followers l who r ⌝ }
 {
     let mut best = who;
     let mut weight: usize = 0;
@@ -213,8 +220,8 @@ fn vote(names: &[u64], counts: &[u16], followers: u32, base: u32, l: usize, who:
 }
 
 // The longest log with the grade, where the empty log has it. The next blocks are first looked for at `who`, which nearly always
-// stays with the majority; where it has left, a vote tells whom to walk along with, or that nothing longer has the grade.
-fn climb(
+// stays with the majority; where it has left, a majority_sender tells whom to walk along with, or that nothing longer has the grade.
+fn extend(
     names: &[u64],
     counts: &[u16],
     lengths: &[u8; 32],
@@ -222,8 +229,8 @@ fn climb(
     base: u32,
     all: usize,
 ) -> Grade
-    requires { ⌜ Climbing (now names) (now counts) base (now lengths) may all ⌝ }
-    ensures { λ r. ⌜ Climbed (now (names .entry)) (now (counts .entry)) base (now (lengths .entry)) may all r ⌝ }
+    requires { ⌜ Extending (now names) (now counts) base (now lengths) may all ⌝ }
+    ensures { λ r. ⌜ Extended (now (names .entry)) (now (counts .entry)) base (now (lengths .entry)) may all r ⌝ }
 {
     let mut followers = may;
     let mut who = 0;
@@ -232,14 +239,14 @@ fn climb(
         let far = narrow_far(names, counts, lengths, followers, base, l, who);
         if all < 2 * size(far) {
             followers = far;
-            l += RUN;
+            l += CHUNK;
         } else {
             let near = narrow(names, counts, lengths, followers, base, l, who);
             if all < 2 * size(near) {
                 followers = near;
                 l += 1;
             } else {
-                let c = vote(names, counts, followers, base, l, who);
+                let c = majority_sender(names, counts, followers, base, l, who);
                 let next = narrow(names, counts, lengths, followers, base, l, c);
                 if all < 2 * size(next) {
                     followers = next;
@@ -262,7 +269,7 @@ fn find(names: &[u64], counts: &[u16], lengths: &[u8; 32], g: Marks, among: u32,
     let may = in_both(g.voters, among);
     let all = senders(g);
     if all < 2 * size(may) {
-        return climb(names, counts, lengths, may, base, all);
+        return extend(names, counts, lengths, may, base, all);
     }
     Grade::Nothing
 }

@@ -20,7 +20,7 @@ use Rattle.bench.specs.Calls.{Core, acted}
 use Rattle.bench.specs.Acts.{Seen, usedFirst, usedOfGrade, propose, vote, makes, outAfter}
 use Rattle.bench.specs.Record.{Bench, agreementOf, withAgreement, withDecided, withParted}
 use Rattle.bench.specs.ByRecord.{fileLog, fileProposal, fileMessage, usedOf, seenOf, decidedLog, settled, snappedBy, changed, withMade, actedOf}
-use Rattle.bench.specs.Readings.{agreementBefore}
+use Rattle.bench.specs.Support.{agreementBefore}
 use Rattle.bench.proofs.Slots.{same-agreement}
 
 -- ---- the log used, and the agreement read: those of the view before

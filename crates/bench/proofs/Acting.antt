@@ -1,4 +1,4 @@
--- Act: the record does what the history says, answers what it answers, and stays tied to it. Assumes nothing.
+-- Act: the record does what the history says, answers what it answers, and stays refined to it. Assumes nothing.
 use Prim.Native.Nat.{ℕ, zero, suc, _+_, _-_, _^_, _≤_, _<_}
 use native.Mathlib.Omega.{arith}
 use mathlib.Core.Bool.{Bool, true, false, not, _||_}
@@ -25,18 +25,18 @@ use Rattle.bench.specs.Causes.{actCauses}
 use Rattle.bench.specs.History.{History, beatNow, refusal, seenAt, madeBy, decidedBy, fileMade, closed, accepted, answer, acceptedAnswer, standIn}
 use Rattle.bench.specs.Record.{agreementOf, proposalsOf, beatOf, idle, Bench}
 use Rattle.bench.specs.ByRecord.{stepBy, usedOf, seenOf, snappedBy, snapped, changed, withMade, actedOf, over, actedNow, actOf}
-use Rattle.bench.proofs.Fine.{Fine}
-use Rattle.bench.proofs.FineAgreements.{snapshot-fine}
-use Rattle.bench.proofs.FineBench.{with-agreement-fine}
-use Rattle.bench.proofs.Slots.{agreement-fine, agreement-rest, SameBesides}
+use Rattle.bench.proofs.Valid.{Valid}
+use Rattle.bench.proofs.ValidAgreements.{snapshot-valid}
+use Rattle.bench.proofs.ValidBench.{with-agreement-valid}
+use Rattle.bench.proofs.Slots.{agreement-valid, agreement-rest, SameBesides}
 use Rattle.bench.proofs.HistoryActs.{views-some}
 use Rattle.bench.proofs.GoodHistory.{decided-good, made-good}
-use Rattle.bench.proofs.Ties.{Filled, lastOf, Tie}
-use Rattle.bench.proofs.FilingTies.{file-tie}
-use Rattle.bench.proofs.CallTies.{Agrees, agrees-by, beat-same, idle-same, started, carries-read}
-use Rattle.bench.proofs.SeenTies.{makes-same, decides-same}
+use Rattle.bench.proofs.Refinement.{Filled, lastOf, Refines}
+use Rattle.bench.proofs.FilingRefinement.{file-refines}
+use Rattle.bench.proofs.CallRefinement.{Agrees, agrees-by, beat-same, idle-same, started, carries-read}
+use Rattle.bench.proofs.SeenRefinement.{makes-same, decides-same}
 use Rattle.bench.proofs.Settling.{Settled, decision-settled}
-use Rattle.bench.proofs.ActTies.{NoneOf, quiet-filled, snapshot-filled}
+use Rattle.bench.proofs.ActRefinement.{NoneOf, quiet-filled, snapshot-filled}
 
 -- ---- what is made is open at the beat at which it is made
 
@@ -81,7 +81,7 @@ unfolding usedOf agreementOf proposalsOf
 over-seen s zero a = refl
 over-seen s (suc u) a = refl
 
-module _ (S : Seat) (s : Core) (p : History) (t : Tie S s p) (busy : p .gathering ≡ true) where
+module _ (S : Seat) (s : Core) (p : History) (t : Refines S s p) (busy : p .gathering ≡ true) where
   abbrev beat : ℕ
   beat = beatOf (s .bench)
 
@@ -95,17 +95,17 @@ module _ (S : Seat) (s : Core) (p : History) (t : Tie S s p) (busy : p .gatherin
 
   module _ (made : Option Meaning) (d : Option Log) where
     -- a settled state whose agreements alone changed since
-    rest-tie : {x : Core} {c : Bench} → Settled S s p d x → SameBesides (x .bench) c → Fine c → Filled c (x .names) (x .counts) (closed p made d)
-        → Tie S (record { bench = c; names = x .names; counts = x .counts }) (closed p made d)
+    rest-refines : {x : Core} {c : Bench} → Settled S s p d x → SameBesides (x .bench) c → Valid c → Filled c (x .names) (x .counts) (closed p made d)
+        → Refines S (record { bench = c; names = x .names; counts = x .counts }) (closed p made d)
     unfolding standIn
-    rest-tie {x} {c} w r f h =
+    rest-refines {x} {c} w r f h =
         let e = r .decided in
         let m = r .parted in
         let g = r .gathering ∙ w .at-rest in
         record {
           n-is = r .n ∙ w .n-is;
           own-is = r .own ∙ w .own-is;
-          fine = f;
+          valid = f;
           roomy = w .roomy;
           last-is = ap lastOf (r .next ∙ w .next-is) ∙ t .last-is;
           gathering-is = ap (λ (y : ℕ). not (not (isYes y) || eqb (c .next) 0)) g;
@@ -114,15 +114,15 @@ module _ (S : Seat) (s : Core) (p : History) (t : Tie S s p) (busy : p .gatherin
           good = record { heard = t .good .heard; proposals = t .good .proposals; priorities = t .good .priorities };
         }
 
-    settled-tie : {x : Core} → Settled S s p d x → ((u : ℕ) → u ≤ lastView → NoneOf p made d beat now u) → Tie S x (closed p made d)
-    settled-tie {x} w quiet =
-        rest-tie w (record { n = refl; own = refl; next = refl; gathering = refl; proposals = refl; decided = refl; parted = refl }) (w .fine)
-        (quiet-filled p made d beat now (w .next-is ∙ next) (w .fine) (w .filled) quiet)
+    settled-refines : {x : Core} → Settled S s p d x → ((u : ℕ) → u ≤ lastView → NoneOf p made d beat now u) → Refines S x (closed p made d)
+    settled-refines {x} w quiet =
+        rest-refines w (record { n = refl; own = refl; next = refl; gathering = refl; proposals = refl; decided = refl; parted = refl }) (w .valid)
+        (quiet-filled p made d beat now (w .next-is ∙ next) (w .valid) (w .filled) quiet)
 
     -- a snapshot of view v, or none after the last view
-    snapshot-tie : {x : Core} (k : SnapshotNumber) (v : ℕ) → Settled S s p d x → beat ≡ snapshotBeat k v → Tie S (snappedBy k v x) (closed p made d)
+    snapshot-refines : {x : Core} (k : SnapshotNumber) (v : ℕ) → Settled S s p d x → beat ≡ snapshotBeat k v → Refines S (snappedBy k v x) (closed p made d)
     unfolding snappedBy
-    snapshot-tie {x} k v w e =
+    snapshot-refines {x} k v w e =
         let nx = w .next-is ∙ next in
         either (isView v)
         (λ i.
@@ -130,10 +130,10 @@ module _ (S : Seat) (s : Core) (p : History) (t : Tie S s p) (busy : p .gatherin
         let g = withSnapshot k (agreementOf (x .bench) v) in
         let after = snapshot-after k v e in
         rw i
-        (rest-tie w (agreement-rest (x .bench) v g)
-        (with-agreement-fine (x .bench) (w .fine) v g (snapshot-fine (x .bench .n) (agreementOf (x .bench) v) (agreement-fine (x .bench) v low (w .fine)) k))
-        (snapshot-filled p made d beat now nx (w .fine) (w .filled) v low (omega arith) (omega arith) k e)))
-        (λ i. let high = leb-false v lastView i in rw i (settled-tie w (past k v e high)))
+        (rest-refines w (agreement-rest (x .bench) v g)
+        (with-agreement-valid (x .bench) (w .valid) v g (snapshot-valid (x .bench .n) (agreementOf (x .bench) v) (agreement-valid (x .bench) v low (w .valid)) k))
+        (snapshot-filled p made d beat now nx (w .valid) (w .filled) v low (omega arith) (omega arith) k e)))
+        (λ i. let high = leb-false v lastView i in rw i (settled-refines w (past k v e high)))
       where
         -- both lie inside the view
         snapshot-after : (k : SnapshotNumber) (v : ℕ) → beat ≡ snapshotBeat k v → (inputBeat v < beat) × (beat ≤ closeBeat v)
@@ -147,16 +147,16 @@ module _ (S : Seat) (s : Core) (p : History) (t : Tie S s p) (busy : p .gatherin
         past two v e h u l two z = omega arith
 
   -- by the rows of the calendar
-  changed-tie : (made : Option Meaning) (v r : ℕ) → viewOf beat ≡ v → placeIn beat ≡ r → ((L : Log) → decides (seenOf (over s) v (actAt r)) (actAt r) ≡ some L → GoodLog L)
-      → Tie S (changed (over s) v (actAt r)) (closed p made (decides (seenOf (over s) v (actAt r)) (actAt r)))
+  changed-refines : (made : Option Meaning) (v r : ℕ) → viewOf beat ≡ v → placeIn beat ≡ r → ((L : Log) → decides (seenOf (over s) v (actAt r)) (actAt r) ≡ some L → GoodLog L)
+      → Refines S (changed (over s) v (actAt r)) (closed p made (decides (seenOf (over s) v (actAt r)) (actAt r)))
   unfolding changed
-  changed-tie made v r ev er good = snap r er (decision-settled S s p t (decides (seenOf (over s) v (actAt r)) (actAt r)) good)
+  changed-refines made v r ev er good = snap r er (decision-settled S s p t (decides (seenOf (over s) v (actAt r)) (actAt r)) good)
     where
-      snap : (k : ℕ) → placeIn beat ≡ k → {d : Option Log} {x : Core} → Settled S s p d x → Tie S (snapped (snapshotTaken (actAt k)) v x) (closed p made d)
-      snap zero e {d} w = settled-tie made d w (λ u l j. elim j [ one ↦ (λ z. omega arith) | two ↦ (λ z. omega arith) ])
-      snap (suc zero) e {d} w = settled-tie made d w (λ u l j. elim j [ one ↦ (λ z. omega arith) | two ↦ (λ z. omega arith) ])
-      snap (suc (suc zero)) e {d} w = snapshot-tie made d one v w (omega arith)
-      snap (suc (suc (suc k))) e {d} w = snapshot-tie made d two v w (omega arith)
+      snap : (k : ℕ) → placeIn beat ≡ k → {d : Option Log} {x : Core} → Settled S s p d x → Refines S (snapped (snapshotTaken (actAt k)) v x) (closed p made d)
+      snap zero e {d} w = settled-refines made d w (λ u l j. elim j [ one ↦ (λ z. omega arith) | two ↦ (λ z. omega arith) ])
+      snap (suc zero) e {d} w = settled-refines made d w (λ u l j. elim j [ one ↦ (λ z. omega arith) | two ↦ (λ z. omega arith) ])
+      snap (suc (suc zero)) e {d} w = snapshot-refines made d one v w (omega arith)
+      snap (suc (suc (suc k))) e {d} w = snapshot-refines made d two v w (omega arith)
 
   -- ---- what is made and decided
 
@@ -178,37 +178,37 @@ module _ (S : Seat) (s : Core) (p : History) (t : Tie S s p) (busy : p .gatherin
 
     module _ (typed : (block .name < 2 ^ 64) × (block .count < 2 ^ 16) × (priority < 2 ^ 64)) where
       -- what is made is filed in both
-      filed-tie : (x : Core) (q : History) → Tie S x q → x .bench .next ≡ s .bench .next → (o : Option Meaning) → o ≡ madeBy S p block priority → Tie S (withMade x o) (fileMade q o)
-      filed-tie x q h nx none e = h
-      filed-tie x q h nx (some m) e =
-          let lo : S .own < S .terms .n = let a = t .fine .own in let c = t .own-is in let f = t .n-is in omega arith in
+      filed-refines : (x : Core) (q : History) → Refines S x q → x .bench .next ≡ s .bench .next → (o : Option Meaning) → o ≡ madeBy S p block priority → Refines S (withMade x o) (fileMade q o)
+      filed-refines x q h nx none e = h
+      filed-refines x q h nx (some m) e =
+          let lo : S .own < S .terms .n = let a = t .valid .own in let c = t .own-is in let f = t .n-is in omega arith in
           let w = made-good S block priority lo (typed .0) (typed .1) (typed .2) p (t .good) m (sym e) in
           let l = started t busy in
           let o : openTo m beat ≡ true = made-open (s .bench .own) (viewOf beat) (placeIn beat) block priority (seenOf (over s) (viewOf beat) (actAt (placeIn beat))) m beat refl refl (made-same ∙ sym e) in
           let same : beatOf (x .bench) ≡ beat = ap (λ (k : ℕ). k - 1) nx in
-          file-tie S x q h (bytesOf m) (omega arith) m w (carries-read (S .terms .n) (bytesOf m) m (read-written (S .terms .n) m w)) (ap (openTo m) same ∙ o) .1
+          file-refines S x q h (bytesOf m) (omega arith) m w (carries-read (S .terms .n) (bytesOf m) m (read-written (S .terms .n) m w)) (ap (openTo m) same ∙ o) .1
 
-      changes : Tie S (changed (over s) (viewOf beat) (actAt (placeIn beat))) (closed p (madeBy S p block priority) (decidedBy S p))
+      changes : Refines S (changed (over s) (viewOf beat) (actAt (placeIn beat))) (closed p (madeBy S p block priority) (decidedBy S p))
       changes =
           let e = decided-same in
-          subst (λ (d : Option Log). Tie S (changed (over s) (viewOf beat) (actAt (placeIn beat))) (closed p (madeBy S p block priority) d)) e
-          (changed-tie (madeBy S p block priority) (viewOf beat) (placeIn beat) refl refl (λ L f. decided-good S p (t .good) L (sym e ∙ f)))
+          subst (λ (d : Option Log). Refines S (changed (over s) (viewOf beat) (actAt (placeIn beat))) (closed p (madeBy S p block priority) d)) e
+          (changed-refines (madeBy S p block priority) (viewOf beat) (placeIn beat) refl refl (λ L f. decided-good S p (t .good) L (sym e ∙ f)))
 
       next-kept : changed (over s) (viewOf beat) (actAt (placeIn beat)) .bench .next ≡ s .bench .next
       next-kept = last-injective _ (s .bench .next) (changes .last-is ∙ sym (t .last-is))
 
       act-accepted : (out : List ℕ)
           → (actedOf (over s) block priority out (viewOf beat) (actAt (placeIn beat)) .answer ≡ acceptedAnswer S p (act block priority out))
-          × Tie S (actedOf (over s) block priority out (viewOf beat) (actAt (placeIn beat)) .core) (accepted S p (act block priority out))
+          × Refines S (actedOf (over s) block priority out (viewOf beat) (actAt (placeIn beat)) .core) (accepted S p (act block priority out))
       unfolding actedOf accepted acceptedAnswer
       act-accepted out =
           let e = made-same in (
             (λ i. record { reply = acted (e i); out = outAfter (e i) out }),
-            subst (λ (o : Option Meaning). Tie S (withMade (changed (over s) (viewOf beat) (actAt (placeIn beat))) o) (fileMade (closed p (madeBy S p block priority) (decidedBy S p)) (madeBy S p block priority))) (sym e)
-                (filed-tie (changed (over s) (viewOf beat) (actAt (placeIn beat))) (closed p (madeBy S p block priority) (decidedBy S p)) changes next-kept (madeBy S p block priority) refl),
+            subst (λ (o : Option Meaning). Refines S (withMade (changed (over s) (viewOf beat) (actAt (placeIn beat))) o) (fileMade (closed p (madeBy S p block priority) (decidedBy S p)) (madeBy S p block priority))) (sym e)
+                (filed-refines (changed (over s) (viewOf beat) (actAt (placeIn beat))) (closed p (madeBy S p block priority) (decidedBy S p)) changes next-kept (madeBy S p block priority) refl),
           )
 
-pub act-agrees : (S : Seat) (s : State) (p : History) → Tie S (coreOf s) p → (block : Block) (priority : ℕ) (out : List ℕ) → Typed (act block priority out)
+pub act-agrees : (S : Seat) (s : State) (p : History) → Refines S (coreOf s) p → (block : Block) (priority : ℕ) (out : List ℕ) → Typed (act block priority out)
     → Agrees S s p (act block priority out) (actOf s block priority out)
 unfolding actOf refusal
 act-agrees S s p t block priority out typed =

@@ -32,8 +32,8 @@ use Rattle.bench.specs.Record.{agreementOf, proposalsOf, beatOf, tooLong
 use Rattle.bench.specs.ByRecord.{refuse, stepBy, begun, beginRows, beginOf, fileMessage, taken, receiveRows, receiveOf, usedOf, seenOf, over, actedOf, actedNow, actRows, actOf}
 use Rattle.bench.specs.Tested.{Tested}
 use Rattle.bench.proofs.TestedLaws.{within-limits, long-out}
-use Rattle.bench.proofs.Fine.{no-place}
-use Rattle.bench.proofs.FineAgreements.{getD-all}
+use Rattle.bench.proofs.Valid.{no-place}
+use Rattle.bench.proofs.ValidAgreements.{getD-all}
 
 -- ---- what an answer says was made; a refusal made nothing
 

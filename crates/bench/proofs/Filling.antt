@@ -20,10 +20,10 @@ use Rattle.bench.specs.Layout.{isEven, logsPlace, proposalsPlace, decide
 use Rattle.bench.specs.Calendar.{lastView, viewBeat, inputBeat, snapshotBeat, closeBeat}
 use Rattle.bench.specs.History.{History, heardAt, snapshotOf}
 use Rattle.bench.specs.Record.{agreementOf, withAgreement, proposalsOf, withProposals, Bench}
-use Rattle.bench.proofs.Fine.{FineAgreement, FineProposals, Fine}
+use Rattle.bench.proofs.Valid.{ValidAgreement, ValidProposals, Valid}
 use Rattle.agreement.proofs.EmptyLaws.{empty-kept, empty-proposal-kept}
-use Rattle.bench.proofs.Slots.{agreement-fine, proposals-fine, changed-own, changed-across, changed-beside, parity-apart, proposals-own, proposals-beside}
-use Rattle.bench.proofs.Ties.{Holds, HoldsProposals, Since, Filled, no-act}
+use Rattle.bench.proofs.Slots.{agreement-valid, proposals-valid, changed-own, changed-across, changed-beside, parity-apart, proposals-own, proposals-beside}
+use Rattle.bench.proofs.Refinement.{Holds, HoldsProposals, Since, Filled, no-act}
 
 -- ---- no two parts of the lists overlap
 
@@ -39,24 +39,24 @@ logs-apart u v h =
 -- ---- lists that changed elsewhere
 
 module _ {n b w : ℕ} {ns cs ns′ cs′ : List ℕ} (d : Elsewhere b w ns cs ns′ cs′) where
-  pub holds-elsewhere : (g : Agreement) (p : History) (v : ℕ) → n ≤ mostSenders → FineAgreement n g → Apart (logsPlace v) span b w → Holds ns cs g p v → Holds ns′ cs′ g p v
+  pub holds-elsewhere : (g : Agreement) (p : History) (v : ℕ) → n ≤ mostSenders → ValidAgreement n g → Apart (logsPlace v) span b w → Holds ns cs g p v → Holds ns′ cs′ g p v
   holds-elsewhere g p v m f far h = record {
     logs = λ i. kept-elsewhere d (logsPlace v) far g (λ j. f .sender j .short) i (λ e. f .sender i .no-voter (omega arith)) ∙ h .logs i;
     snapshots = h .snapshots;
   }
 
-  pub proposals-elsewhere : (g : Proposals) (p : History) (v : ℕ) → n ≤ mostSenders → FineProposals n g → Apart proposalsPlace span b w
+  pub proposals-elsewhere : (g : Proposals) (p : History) (v : ℕ) → n ≤ mostSenders → ValidProposals n g → Apart proposalsPlace span b w
       → HoldsProposals ns cs g p v → HoldsProposals ns′ cs′ g p v
   proposals-elsewhere g p v m f far h i =
       proposal-kept-elsewhere d proposalsPlace far g (λ j. f .proposer j .short) i (λ e. f .proposer i .not-filed (omega arith)) ∙ h i
 
 -- ---- the decided log is written
 
-pub filled-decided : {b : Bench} {ns cs ns′ cs′ : List ℕ} {p : History} → Fine b → Elsewhere decidedPlace mostBlocks ns cs ns′ cs′
+pub filled-decided : {b : Bench} {ns cs ns′ cs′ : List ℕ} {p : History} → Valid b → Elsewhere decidedPlace mostBlocks ns cs ns′ cs′
     → Filled b ns cs p → Filled b ns′ cs′ p
 filled-decided {b} {p = p} f d h = record {
-  views = λ v i o. let a = logs-low v in holds-elsewhere d (agreementOf b v) p v (f .few) (agreement-fine b v i f) (inl (omega arith)) (h .views v i o);
-  proposals = λ v i o. proposals-elsewhere d (proposalsOf b v) p v (f .few) (proposals-fine b v i f) (inl (omega arith)) (h .proposals v i o);
+  views = λ v i o. let a = logs-low v in holds-elsewhere d (agreementOf b v) p v (f .few) (agreement-valid b v i f) (inl (omega arith)) (h .views v i o);
+  proposals = λ v i o. proposals-elsewhere d (proposalsOf b v) p v (f .few) (proposals-valid b v i f) (inl (omega arith)) (h .proposals v i o);
   since = h .since;
 }
 
@@ -95,7 +95,7 @@ module _ {next : ℕ} {p : History} (since : Since next p) (u : ℕ) where
 
 -- ---- the agreement of an open view changes, and the history with it
 
-module _ {b : Bench} {ns cs ns′ cs′ : List ℕ} {p q : History} (f : Fine b) (h : Filled b ns cs p) (v : ℕ) (late : inputBeat v < b .next) (soon : b .next ≤ closeBeat v + 1)
+module _ {b : Bench} {ns cs ns′ cs′ : List ℕ} {p q : History} (f : Valid b) (h : Filled b ns cs p) (v : ℕ) (late : inputBeat v < b .next) (soon : b .next ≤ closeBeat v + 1)
     (lists : Elsewhere (logsPlace v) span ns cs ns′ cs′) (g : Agreement) (view : g .marks .view ≡ v)
     (here : Holds ns′ cs′ g q v) (there : (u : ℕ) → (u ≡ v → ⊥) → u ≤ lastView → SameView p q u) where
   -- another view of the parity is shut, or its time has not come
@@ -107,7 +107,7 @@ module _ {b : Bench} {ns cs ns′ cs′ : List ℕ} {p q : History} (f : Fine b)
 
   across-holds : (u : ℕ) → (u ≡ v → ⊥) → (isEven u ≡ isEven v → ⊥) → u ≤ lastView → b .next ≤ closeBeat u + 1 → Holds ns′ cs′ (agreementOf b u) q u
   across-holds u d e i o =
-      holds-same (there u d i) (holds-elsewhere lists (agreementOf b u) p u (f .few) (agreement-fine b u i f) (logs-apart u v e) (h .views u i o))
+      holds-same (there u d i) (holds-elsewhere lists (agreementOf b u) p u (f .few) (agreement-valid b u i f) (logs-apart u v e) (h .views u i o))
 
   pub agreement-views : (u : ℕ) → u ≤ lastView → b .next ≤ closeBeat u + 1 → Holds ns′ cs′ (agreementOf (withAgreement b v g) u) q u
   agreement-views u i o = elim (ℕ-discrete u v) [

@@ -10,7 +10,7 @@ use lib.Dec.{eqb, ltb}
 use lib.ListN.{length}
 use Rattle.message.specs.Limits.{mostBlocks, lastView}
 use Rattle.message.specs.Logs.{Block, Log}
-use Rattle.message.specs.Message.{Content, Meaning, logMessage, proposalMessage, Reading, refused, means, readOf, Writable, WritableMeaning}
+use Rattle.message.specs.Message.{Content, Meaning, logMessage, proposalMessage, Parsed, refused, means, readOf, Writable, WritableMeaning}
 use Rattle.message.proofs.TestLaws.{either}
 use Rattle.message.proofs.Codec.{read-writable}
 use Rattle.message.proofs.GoodLogs.{GoodLog, writable-log, log-writable, empty-good, prefix-good, append-good}
@@ -148,7 +148,7 @@ file-good S p (proposalMessage c priority) w g = record {
   ];
 }
 
-fileRead-good : (S : Seat) (p : History) (r : Reading) → ((m : Meaning) → r ≡ means m → WritableMeaning (S .terms .n) m) → GoodHistory S p
+fileRead-good : (S : Seat) (p : History) (r : Parsed) → ((m : Meaning) → r ≡ means m → WritableMeaning (S .terms .n) m) → GoodHistory S p
     → GoodHistory S (fileRead p r)
 fileRead-good S p (refused k) w g = g
 fileRead-good S p (means m) w g = file-good S p m (w m refl) g

@@ -7,36 +7,36 @@ pub mod HistoryActs
 pub mod HistoryLaws
 pub mod GoodHistory
 -- Records within their limits, and which agreement is whose:
-pub mod Fine
-pub mod FineAgreements
-pub mod FineProposals
+pub mod Valid
+pub mod ValidAgreements
+pub mod ValidProposals
 pub mod Slots
-pub mod FineBench
+pub mod ValidBench
 -- The refusals, what holds where none is given, and the outgoing buffer, of every record:
 pub mod Refusals
 pub mod TestedLaws
 pub mod LimitLaws
 pub mod Buffer
-pub mod Never
+pub mod NoEightNine
 -- The code's answers, read as document 01's:
 pub mod Replies
 -- An act, case by case:
 pub mod ActLaws
 -- The tie between record and history, kept by every call:
-pub mod Ties
+pub mod Refinement
 pub mod Filling
-pub mod LogTies
-pub mod ProposalTies
-pub mod FilingTies
-pub mod CallTies
-pub mod SeenTies
+pub mod LogRefinement
+pub mod ProposalRefinement
+pub mod FilingRefinement
+pub mod CallRefinement
+pub mod SeenRefinement
 pub mod Settling
-pub mod ActTies
+pub mod ActRefinement
 pub mod Acting
 -- Worked examples:
-pub mod Odd
+pub mod LimitTable
 pub mod Order
 pub mod Windows
 pub mod Sample
 pub mod MadeTable
-pub mod Served
+pub mod WithinTable

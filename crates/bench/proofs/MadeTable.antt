@@ -22,7 +22,7 @@ use Rattle.bench.specs.Calls.{acted, State, Step}
 use Rattle.bench.specs.Acts.{propose, vote, makes}
 use Rattle.bench.specs.Record.{agreementOf, proposalsOf, withAgreement, anyPlace, beyondAgreement, beyondProposals, beyond}
 use Rattle.bench.specs.ByRecord.{keptAgreement, keptProposals, beginOf, fileMessage, usedOf, settled, snappedBy, changed, actedOf, actOf}
-use Rattle.bench.proofs.Odd.{nobody, only, long}
+use Rattle.bench.proofs.LimitTable.{nobody, only, long}
 use Rattle.bench.proofs.Sample.{alone}
 
 -- ---- bench 3 of 5, gathering at a beat of view 259, which starts at 1,036

@@ -18,7 +18,7 @@ use Rattle.bench.specs.Calls.{Reply, refused, done, acted, State}
 use Rattle.bench.specs.Acts.{makes}
 use Rattle.bench.specs.Record.{anyPlace, beyondAgreement, beyondProposals, beyond, agreementOf, withAgreement, Bench}
 use Rattle.bench.specs.ByRecord.{openOf, beginOf, receiveOf, settled, snappedBy, changed, actedOf, actOf}
-use Rattle.bench.proofs.Odd.{plain}
+use Rattle.bench.proofs.LimitTable.{plain}
 
 -- ---- the rows
 

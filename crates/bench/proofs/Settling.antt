@@ -23,19 +23,19 @@ use Rattle.bench.specs.Acts.{Stand, settle}
 use Rattle.bench.specs.History.{History, standIn}
 use Rattle.bench.specs.Record.{agreementOf, proposalsOf, withGatheringOver, withDecided, withParted, Bench}
 use Rattle.bench.specs.ByRecord.{decidedLog, over, settled, standOf}
-use Rattle.bench.proofs.Fine.{Fine}
-use Rattle.bench.proofs.FineBench.{over-fine, decided-fine, parted-fine}
-use Rattle.bench.proofs.Ties.{Filled, Roomy, Tie}
+use Rattle.bench.proofs.Valid.{Valid}
+use Rattle.bench.proofs.ValidBench.{over-valid, decided-valid, parted-valid}
+use Rattle.bench.proofs.Refinement.{Filled, Roomy, Refines}
 use Rattle.bench.proofs.Filling.{filled-decided}
-use Rattle.bench.proofs.LogTies.{roomy-elsewhere}
+use Rattle.bench.proofs.LogRefinement.{roomy-elsewhere}
 
--- The core x after a decision d, of a bench that was tied to p and whose gathering is over.
+-- The core x after a decision d, of a bench that was refined to p and whose gathering is over.
 pub record Settled (S : Seat) (s : Core) (p : History) (d : Option Log) (x : Core) : Type 0 where
   pub n-is : x .bench .n ≡ S .terms .n
   pub own-is : x .bench .own ≡ S .own
   pub next-is : x .bench .next ≡ s .bench .next
   pub at-rest : x .bench .gathering ≡ 0
-  pub fine : Fine (x .bench)
+  pub valid : Valid (x .bench)
   pub roomy : Roomy (x .names) (x .counts)
   pub filled : Filled (x .bench) (x .names) (x .counts) p
   pub stand-is : standOf x ≡ settle (standIn (S .stood) (p .actions)) d
@@ -49,7 +49,7 @@ same-filled e f g h x = record {
   since = rw e (x .since);
 }
 
-module _ (S : Seat) (s : Core) (p : History) (t : Tie S s p) where
+module _ (S : Seat) (s : Core) (p : History) (t : Refines S s p) where
   over-filled : Filled (withGatheringOver (s .bench)) (s .names) (s .counts) p
   over-filled = same-filled refl refl refl refl (t .filled)
 
@@ -61,7 +61,7 @@ module _ (S : Seat) (s : Core) (p : History) (t : Tie S s p) where
     own-is = t .own-is;
     next-is = refl;
     at-rest = refl;
-    fine = over-fine (s .bench) (t .fine);
+    valid = over-valid (s .bench) (t .valid);
     roomy = t .roomy;
     filled = over-filled;
     stand-is = t .stand-is;
@@ -111,9 +111,9 @@ module _ (S : Seat) (s : Core) (p : History) (t : Tie S s p) where
           own-is = t .own-is;
           next-is = refl;
           at-rest = refl;
-          fine = decided-fine (withGatheringOver (s .bench)) (over-fine (s .bench) (t .fine)) (length L) (good .short);
+          valid = decided-valid (withGatheringOver (s .bench)) (over-valid (s .bench) (t .valid)) (length L) (good .short);
           roomy = roomy-elsewhere elsewhere (t .roomy);
-          filled = same-filled refl refl refl refl (filled-decided (t .fine) elsewhere (t .filled));
+          filled = same-filled refl refl refl refl (filled-decided (t .valid) elsewhere (t .filled));
           stand-is = st ∙ sym z;
         }))
         (λ e. either (isPrefix L (decidedLog s))
@@ -126,7 +126,7 @@ module _ (S : Seat) (s : Core) (p : History) (t : Tie S s p) where
           own-is = t .own-is;
           next-is = refl;
           at-rest = refl;
-          fine = over-fine (s .bench) (t .fine);
+          valid = over-valid (s .bench) (t .valid);
           roomy = t .roomy;
           filled = over-filled;
           stand-is = t .stand-is ∙ sym z;
@@ -143,7 +143,7 @@ module _ (S : Seat) (s : Core) (p : History) (t : Tie S s p) where
           own-is = t .own-is;
           next-is = refl;
           at-rest = refl;
-          fine = parted-fine (withGatheringOver (s .bench)) (over-fine (s .bench) (t .fine));
+          valid = parted-valid (withGatheringOver (s .bench)) (over-valid (s .bench) (t .valid));
           roomy = t .roomy;
           filled = same-filled refl refl refl refl (t .filled);
           stand-is = st ∙ sym z;

@@ -16,9 +16,9 @@ use Rattle.bench.specs.Layout.{isEven}
 use Rattle.bench.specs.Calendar.{inputBeat, closeBeat, logsShut, proposalsShut}
 use Rattle.bench.specs.Record.{ofView, slotOf, agreementOf, proposedIn, proposalsOf, withAgreement, withProposals, Bench}
 use Rattle.bench.specs.ByRecord.{keptAgreement, keptProposals, begunBench}
-use Rattle.bench.proofs.Fine.{FineAgreement, FineProposals, Fine}
-use Rattle.bench.proofs.FineAgreements.{empty-fine}
-use Rattle.bench.proofs.FineProposals.{empty-proposals-fine}
+use Rattle.bench.proofs.Valid.{ValidAgreement, ValidProposals, Valid}
+use Rattle.bench.proofs.ValidAgreements.{empty-valid}
+use Rattle.bench.proofs.ValidProposals.{empty-proposals-valid}
 
 -- ---- what a slot holds of view v
 
@@ -36,8 +36,8 @@ empty-of-view u v =
 of-view-view : (g : Agreement) (v : ℕ) → ofView g v .marks .view ≡ v
 of-view-view g v = either (eqb (g .marks .view) v) (λ t. rw t (eqb-true (g .marks .view) v t)) (λ t. rw t)
 
-of-view-fine : (n : ℕ) (g : Agreement) (v : ℕ) → v ≤ lastView → FineAgreement n g → FineAgreement n (ofView g v)
-of-view-fine n g v h f = either (eqb (g .marks .view) v) (λ t. rw t f) (λ t. rw t (empty-fine n v h))
+of-view-valid : (n : ℕ) (g : Agreement) (v : ℕ) → v ≤ lastView → ValidAgreement n g → ValidAgreement n (ofView g v)
+of-view-valid n g v h f = either (eqb (g .marks .view) v) (λ t. rw t f) (λ t. rw t (empty-valid n v h))
 
 -- the same of proposals
 own-proposals : (g : Proposals) (v : ℕ) → g .marks .view ≡ v → proposedIn g v ≡ g
@@ -87,13 +87,13 @@ module _ (b : Bench) (v : ℕ) where
   unfolding proposalsOf
   proposals-view = either (eqb (b .proposals .marks .view) v) (λ t. rw t (eqb-true (b .proposals .marks .view) v t)) (λ t. rw t)
 
-  pub agreement-fine : v ≤ lastView → Fine b → FineAgreement (b .n) (agreementOf b v)
+  pub agreement-valid : v ≤ lastView → Valid b → ValidAgreement (b .n) (agreementOf b v)
   unfolding agreementOf
-  agreement-fine h f = of-view-fine (b .n) (slotOf b v) v h (in-slot (FineAgreement (b .n)) b v (f .even) (f .odd))
+  agreement-valid h f = of-view-valid (b .n) (slotOf b v) v h (in-slot (ValidAgreement (b .n)) b v (f .even) (f .odd))
 
-  pub proposals-fine : v ≤ lastView → Fine b → FineProposals (b .n) (proposalsOf b v)
+  pub proposals-valid : v ≤ lastView → Valid b → ValidProposals (b .n) (proposalsOf b v)
   unfolding proposalsOf
-  proposals-fine h f = either (eqb (b .proposals .marks .view) v) (λ t. rw t (f .proposals)) (λ t. rw t (empty-proposals-fine (b .n) v h))
+  proposals-valid h f = either (eqb (b .proposals .marks .view) v) (λ t. rw t (f .proposals)) (λ t. rw t (empty-proposals-valid (b .n) v h))
 
   -- by the slot: of view v's parity, and the one of proposals
   pub agreement-even : isEven v ≡ true → agreementOf b v ≡ ofView (b .even) v

@@ -11,7 +11,7 @@ use Rattle.message.specs.Limits.{mostBlocks}
 use Rattle.message.specs.Store.{within}
 use Rattle.message.proofs.TestLaws.{or-false}
 use Rattle.message.proofs.ListedLaws.{Within, of-within}
-use Rattle.bench.specs.Layout.{decidedPlace, leastLent, mostBytes, tooShort, outOfRange}
+use Rattle.bench.specs.Layout.{decidedPlace, leastLent, mostBytes, tooFewPlaces, outOfRange}
 use Rattle.bench.specs.Calendar.{lastBeat}
 use Rattle.bench.specs.Calls.{Core}
 use Rattle.bench.specs.Record.{withGatheringOver, beyondAgreement, beyondProposals, beyond, Bench}
@@ -32,7 +32,7 @@ within-limits b e =
 
 -- ---- the lists
 
-module _ (names counts : List ℕ) (e : tooShort names counts ≡ false) where
+module _ (names counts : List ℕ) (e : tooFewPlaces names counts ≡ false) where
   pub lists-roomy : (leastLent ≤ length names) × (leastLent ≤ length counts)
   lists-roomy =
       let r = or-false (ltb (length names) leastLent) (ltb (length counts) leastLent) e in
@@ -53,11 +53,11 @@ module _ (names counts : List ℕ) (e : tooShort names counts ≡ false) where
 
 -- ---- all that was tested, as the code finds it
 
-pub is-usable : (b : Bench) (names counts : List ℕ) (r q : Bool) → r ≡ beyond b → r ≡ false → q ≡ tooShort names counts → q ≡ false
+pub is-usable : (b : Bench) (names counts : List ℕ) (r q : Bool) → r ≡ beyond b → r ≡ false → q ≡ tooFewPlaces names counts → q ≡ false
     → Usable (coreWith b names counts)
 is-usable b names counts r q e t f u = record { limits = sym e ∙ t; lists = sym f ∙ u }
 
-pub act-asks : (b : Bench) (names counts out : List ℕ) (r q : Bool) → r ≡ beyond b → r ≡ false → q ≡ tooShort names counts → q ≡ false
+pub act-asks : (b : Bench) (names counts out : List ℕ) (r q : Bool) → r ≡ beyond b → r ≡ false → q ≡ tooFewPlaces names counts → q ≡ false
     → mostBytes ≤ length out → Tested (coreWith b names counts) out
 act-asks b names counts out r q e t f u l = record { usable = is-usable b names counts r q e t f u; room = le-ltb (length out) mostBytes l }
 

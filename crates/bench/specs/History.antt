@@ -9,7 +9,7 @@ use lib.Dec.{eqb, leb}
 use Rattle.message.specs.Choice.{pick}
 use Rattle.message.specs.Causes.{Cause, firstFailure}
 use Rattle.message.specs.Logs.{Block, Log, sameLog}
-use Rattle.message.specs.Message.{Content, agreementNumber, Meaning, logMessage, proposalMessage, Reading, refused as unread, means}
+use Rattle.message.specs.Message.{Content, agreementNumber, Meaning, logMessage, proposalMessage, Parsed, refused as unread, means}
 use Rattle.agreement.specs.Record.{SnapshotNumber, one, two}
 use Rattle.agreement.specs.Filing.{Word}
 use Rattle.agreement.specs.Kept.{wordOn, sameProposal}
@@ -55,7 +55,7 @@ orZero (some b) = b
 abbrev pub beatNow : History → ℕ
 beatNow p = orZero (p .last)
 
--- ---- refusals: 9 never arises here, and 8 at Open only
+-- ---- refusals: 9 no-eight-or-nine arises here, and 8 at Open only
 
 -- Open: 7, 8
 unfoldable pub openRefusal : Seat → Lent → Option ℕ
@@ -134,7 +134,7 @@ decidedBy S p = decides (seenAt S p (viewOf (beatNow p)) (actAt (placeIn (beatNo
 
 -- ---- one call
 
-abbrev pub fileRead : History → Reading → History
+abbrev pub fileRead : History → Parsed → History
 fileRead p (unread k) = p
 fileRead p (means m) = file p m
 
@@ -162,7 +162,7 @@ accepted S p (act block priority out) =
     fileMade (closed p (madeBy S p block priority) (decidedBy S p)) (madeBy S p block priority)
 
 -- and what it answers
-abbrev pub wordRead : History → Reading → Reply
+abbrev pub wordRead : History → Parsed → Reply
 wordRead p (unread k) = refused k
 wordRead p (means m) = took (wordFor p m)
 

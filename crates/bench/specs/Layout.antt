@@ -35,12 +35,12 @@ pub record Lent : Type 0 where
   pub counts : List ℕ
 
 -- the names or the counts are too short
-abbrev pub tooShort : List ℕ → List ℕ → Bool
-tooShort names counts = ltb (length names) leastLent || ltb (length counts) leastLent
+abbrev pub tooFewPlaces : List ℕ → List ℕ → Bool
+tooFewPlaces names counts = ltb (length names) leastLent || ltb (length counts) leastLent
 
 -- 8: a lent list is
 abbrev pub shortLists : Lent → Bool
-shortLists l = tooShort (l .names) (l .counts)
+shortLists l = tooFewPlaces (l .names) (l .counts)
 
 -- 7 and 9: n is not 1 to 32, or the own number not below n
 abbrev pub outOfRange : ℕ → ℕ → Bool

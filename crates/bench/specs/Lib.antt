@@ -14,6 +14,6 @@ pub mod ByRecord
 -- What the code of the calls promises:
 pub mod Answers
 -- What an act reads, for whoever shows a schedule:
-pub mod Readings
+pub mod Support
 -- What a call has tested; no reader needs these:
 pub mod Tested

@@ -3,7 +3,7 @@ use Prim.Native.Nat.{ℕ}
 use mathlib.Core.Bool.{false}
 use mathlib.Core.List.{List, []}
 use mathlib.Core.Option.{Option, none}
-use Rattle.message.specs.Message.{Reading, readOf}
+use Rattle.message.specs.Message.{Parsed, readOf}
 use Rattle.bench.specs.Acts.{Stand}
 
 -- The terms of a volume, its parameters: all its benches have the same.
@@ -16,7 +16,7 @@ unfoldable pub weightOf : Terms → ℕ → ℕ
 weightOf T i = 1
 
 -- what bytes mean in the volume
-abbrev pub readIn : Terms → List ℕ → Reading
+abbrev pub readIn : Terms → List ℕ → Parsed
 readIn T bytes = readOf (T .n) bytes
 
 -- A seat is one bench (a validator) of a volume and what it starts from: what it does is worked out from its seat and its list of calls.

@@ -6,14 +6,14 @@ use mathlib.Core.Path.{_≡_}
 use lib.Dec.{ltb}
 use lib.ListN.{length}
 use Rattle.message.specs.Limits.{mostBlocks}
-use Rattle.bench.specs.Layout.{decidedPlace, mostBytes, tooShort}
+use Rattle.bench.specs.Layout.{decidedPlace, mostBytes, tooFewPlaces}
 use Rattle.bench.specs.Calls.{Core}
 use Rattle.bench.specs.Record.{beyond}
 
 -- neither 9 nor 8 is to be given
 pub record Usable (c : Core) : Type 0 where
   pub limits : beyond (c .bench) ≡ false
-  pub lists : tooShort (c .names) (c .counts) ≡ false
+  pub lists : tooFewPlaces (c .names) (c .counts) ≡ false
 
 -- and, by an Act, not 11
 pub record Tested (c : Core) (out : List ℕ) : Type 0 where

@@ -8,7 +8,7 @@ use lib.ListN.{length}
 use borrow.Author.Tests.{lt-ltb, le-ltb}
 use Rattle.message.specs.Logs.{Block}
 use Rattle.message.proofs.CauseLaws.{FailsBy, first-failure, no-failure}
-use Rattle.bench.specs.Layout.{mostBytes, tooShort}
+use Rattle.bench.specs.Layout.{mostBytes, tooFewPlaces}
 use Rattle.bench.specs.Calendar.{viewOf, placeIn, Act, proposing, voting, deciding, snapping, actAt}
 use Rattle.bench.specs.Calls.{State, Core, coreOf}
 use Rattle.bench.specs.Record.{Bench, benchFrom, beatOf, idle, beyond}
@@ -106,7 +106,7 @@ module _ (h : Head) (e o p q names counts out : List ℕ) where
 
 -- what the act asks, of its tests
 pub act-tested : (h : Head) (e o p q names counts out : List ℕ) (r : Bool) → r ≡ beyond (benchFrom h e o p []) → r ≡ false
-    → (z : Bool) → z ≡ tooShort names counts → z ≡ false → mostBytes ≤ length out → Tested (coreWith (benchFrom h e o p q) names counts) out
+    → (z : Bool) → z ≡ tooFewPlaces names counts → z ≡ false → mostBytes ≤ length out → Tested (coreWith (benchFrom h e o p q) names counts) out
 act-tested h e o p q names counts out r x y z f u l = record {
   usable = is-usable (benchFrom h e o p q) names counts r z (x ∙ beyond-of h e o p q) y f u;
   room = le-ltb (length out) mostBytes l;
@@ -134,7 +134,7 @@ module _ (h : Head) (e o p q names counts out : List ℕ) (block : Block) (prior
     pub act-by-9 : r ≡ true → Refused 9
     act-by-9 y = act-by 9 (inl (sym whole ∙ y, refl))
 
-    module _ (y : r ≡ false) (z : Bool) (f : z ≡ tooShort names counts) where
+    module _ (y : r ≡ false) (z : Bool) (f : z ≡ tooFewPlaces names counts) where
       pub act-by-8 : z ≡ true → Refused 8
       act-by-8 u = act-by 8 (inr (sym whole ∙ y, inl (sym f ∙ u, refl)))
 

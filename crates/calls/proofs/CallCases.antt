@@ -7,7 +7,7 @@ use mathlib.Core.Path.{_≡_, refl, sym, _∙_}
 use borrow.Author.Tests.{lt-ltb, le-ltb}
 use Rattle.message.specs.Causes.{Cause, judgedBy}
 use Rattle.message.proofs.CauseLaws.{FailsBy, first-failure, no-failure, judged, judged-refused, judged-done}
-use Rattle.bench.specs.Layout.{tooShort, outOfRange}
+use Rattle.bench.specs.Layout.{tooFewPlaces, outOfRange}
 use Rattle.bench.specs.Calendar.{lastBeat}
 use Rattle.bench.specs.Calls.{done, State, coreOf, Opening}
 use Rattle.bench.specs.Record.{Bench, benchFrom, freshBench, notAboveLast, idle, beyond}
@@ -40,7 +40,7 @@ module _ (n own : ℕ) (names counts : List ℕ) (b : Bench) (r : Bool) (e : r �
   open-by-7 t h =
       gives (notOpened 7) (starts.Refused 7) (open-refused n own (lentAs names counts) 7 (first-failure (openCauses n own (lentAs names counts)) 7 (inl (sym e ∙ t, refl)))) (start-refused 7) h
 
-  module _ (t : r ≡ false) (q : Bool) (f : q ≡ tooShort names counts) where
+  module _ (t : r ≡ false) (q : Bool) (f : q ≡ tooFewPlaces names counts) where
     pub open-by-8 : q ≡ true → b ≡ freshBench 0 0 → Opened (starts.Refused 8)
     open-by-8 u h =
         gives (notOpened 8) (starts.Refused 8) (open-refused n own (lentAs names counts) 8 (first-failure (openCauses n own (lentAs names counts)) 8 (inr (sym e ∙ t, inl (sym f ∙ u, refl))))) (start-refused 8) h
@@ -66,7 +66,7 @@ module _ (h : Head) (e o p q names counts : List ℕ) (r : Bool) (x : r ≡ beyo
   whole : r ≡ beyond (benchFrom h e o p q)
   whole = x ∙ beyond-of h e o p q
 
-  usable : (y : r ≡ false) (z : Bool) → z ≡ tooShort names counts → z ≡ false → Usable (coreOf held)
+  usable : (y : r ≡ false) (z : Bool) → z ≡ tooFewPlaces names counts → z ≡ false → Usable (coreOf held)
   usable y z f u = is-usable (benchFrom h e o p q) names counts r z whole y f u
 
   -- ---- Begin
@@ -84,7 +84,7 @@ module _ (h : Head) (e o p q names counts : List ℕ) (r : Bool) (x : r ≡ beyo
     pub begin-by-9 : r ≡ true → Begun (starts.Refused 9) (benchFrom h e o p q)
     begin-by-9 t = begin-by 9 (inl (sym whole ∙ t, refl))
 
-    module _ (y : r ≡ false) (z : Bool) (f : z ≡ tooShort names counts) where
+    module _ (y : r ≡ false) (z : Bool) (f : z ≡ tooFewPlaces names counts) where
       pub begin-by-8 : z ≡ true → Begun (starts.Refused 8) (benchFrom h e o p q)
       begin-by-8 u = begin-by 8 (inr (sym whole ∙ y, inl (sym f ∙ u, refl)))
 
@@ -115,7 +115,7 @@ module _ (h : Head) (e o p q names counts : List ℕ) (r : Bool) (x : r ≡ beyo
     pub receive-by-9 : r ≡ true → Refused 9
     receive-by-9 t = refused 9 (inl (sym whole ∙ t, refl))
 
-    module _ (y : r ≡ false) (z : Bool) (f : z ≡ tooShort names counts) where
+    module _ (y : r ≡ false) (z : Bool) (f : z ≡ tooFewPlaces names counts) where
       pub receive-by-8 : z ≡ true → Refused 8
       receive-by-8 u = refused 8 (inr (sym whole ∙ y, inl (sym f ∙ u, refl)))
 

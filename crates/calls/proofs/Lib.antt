@@ -9,4 +9,4 @@ pub mod MakingLaws
 pub mod DecidingLaws
 pub mod ActCases
 pub mod CallCases
-pub mod ReadingCases
+pub mod SupportCases

@@ -3,12 +3,12 @@ use Prim.Native.Nat.{ℕ}
 use mathlib.Core.Bool.{Bool, true, false}
 use mathlib.Core.List.{List}
 use mathlib.Core.Path.{_≡_, refl, sym, _∙_}
-use Rattle.message.specs.Message.{Meaning, logMessage, proposalMessage, meaningIn, means, readOf, contentOf, readingOf}
+use Rattle.message.specs.Message.{Meaning, logMessage, proposalMessage, meaningIn, means, readOf, contentOf, parsedOf}
 use Rattle.message.specs.declared.Head as message
 use Rattle.message.specs.declared.Message.{Message}
 use Rattle.message.specs.declared.Message.the-variants as answers
 use Rattle.message.proofs.CauseLaws.{judged-refused}
-use Rattle.message.proofs.Readings.{read-as-log, read-as-proposal, read-as-refused}
+use Rattle.message.proofs.ParsedLaws.{read-as-log, read-as-proposal, read-as-refused}
 use Rattle.bench.specs.Layout.{isEven}
 use Rattle.bench.specs.Calendar.{logWindow, proposalWindow}
 use Rattle.bench.specs.Record.{Bench, benchFrom, beatOf}
@@ -59,7 +59,7 @@ module _ (h : Head) (names counts bytes : List ℕ) (head : message.Head) (beat 
 
 -- ---- by what was read
 
-module _ (h : Head) (e o p s names counts bytes : List ℕ) (m : Message) (q : readingOf bytes m ≡ readOf (h .n) bytes) where
+module _ (h : Head) (e o p s names counts bytes : List ℕ) (m : Message) (q : parsedOf bytes m ≡ readOf (h .n) bytes) where
   abbrev b : Bench
   b = benchFrom h e o p s
 

@@ -22,7 +22,7 @@ use Rattle.message.specs.Logs.{Block, Log}
 use Rattle.message.specs.Store.{logAt, logFrom, proposalFrom}
 use Rattle.bench.specs.Record.{Bench, benchFrom, beatOf, anyPlace, namesBeyond}
 use Rattle.bench.specs.Calendar.{voting, deciding}
-use Rattle.bench.specs.Layout.{mostBytes, isEven, tooShort}
+use Rattle.bench.specs.Layout.{mostBytes, isEven, tooFewPlaces}
 use Rattle.bench.specs.Calls.{acted, openTo, refused, Core}
 use Rattle.bench.specs.Causes.{messageCauses}
 use Rattle.bench.specs.Acts.{outAfter}
@@ -33,7 +33,7 @@ use Rattle.bench.specs.declared.Head.{Head}
 use Rattle.bench.specs.declared.Taken.{Taken}
 use Rattle.bench.specs.declared.Made.{Made}
 use Rattle.bench.specs.declared.ReceivedHead.{ReceivedHead}
-use Rattle.bench.specs.Readings.{orEmpty}
+use Rattle.bench.specs.Support.{orEmpty}
 use Rattle.bench.specs.declared.ActedHead.{ActedHead}
 use Rattle.bench.specs.declared.Counted.{Counted}
 use Rattle.calls.specs.declared.seeing.Found.{Found}
@@ -150,7 +150,7 @@ noBlock = record { name = 0; count = 0 }
 
 -- what making one of the blocks at place a asks
 pub record Making (names counts out : List ℕ) (v a k : ℕ) : Type 0 where
-  pub lists : tooShort names counts ≡ false
+  pub lists : tooFewPlaces names counts ≡ false
   pub room : ltb (length out) mostBytes ≡ false
   pub early : v ≤ lastView
   pub before : Before a k
@@ -175,7 +175,7 @@ pub record Leaves (t : Core) (b : Bench) (names counts : List ℕ) : Type 0 wher
 
 -- what deciding asks: the lists are long enough, and the decided length within its limit
 pub record Decidable (h : Head) (names counts : List ℕ) : Type 0 where
-  pub lists : tooShort names counts ≡ false
+  pub lists : tooFewPlaces names counts ≡ false
   pub short : h .decided ≤ mostBlocks
 
 pub record Settling (h : Head) (names counts : List ℕ) (a k : ℕ) : Type 0 where

@@ -4,12 +4,12 @@
 mod acts;
 mod beginning;
 mod calendar;
+mod counting;
 mod deciding;
 mod filing;
 mod limits;
 mod making;
 pub mod parts;
-mod readings;
 mod record;
 mod seeing;
 
@@ -17,7 +17,7 @@ ghost use Rattle.bench.specs.Calendar.{viewOf, placeIn, actAt};
 ghost use Rattle.bench.specs.Record.{benchOf, beatOf};
 ghost use Rattle.bench.specs.ByRecord.{openOf, beginOf, receiveOf, actOf};
 ghost use Rattle.bench.specs.Answers.{lentAs, coreWith, stateOf, OpenGives, BeginGives, ReceiveGives, ActGives};
-ghost use Rattle.bench.specs.Readings.{ReadingGives};
+ghost use Rattle.bench.specs.Support.{SupportGives};
 use bench::Acted;
 use bench::Bench;
 use bench::Counted;
@@ -159,10 +159,10 @@ pub fn act(
 }
 
 // What the act of the record's beat reads of the agreement before. It is no call: nothing is refused, and nothing changes.
-pub fn reading(bench: Bench, names: &[u64], counts: &[u16]) -> Counted
-    ensures { λ r. ⌜ ReadingGives (coreWith (benchOf bench) (now (names .entry)) (now (counts .entry))) (viewOf (beatOf (benchOf bench))) (actAt (placeIn (beatOf (benchOf bench)))) r ⌝ }
+pub fn support(bench: Bench, names: &[u64], counts: &[u16]) -> Counted
+    ensures { λ r. ⌜ SupportGives (coreWith (benchOf bench) (now (names .entry)) (now (counts .entry))) (viewOf (beatOf (benchOf bench))) (actAt (placeIn (beatOf (benchOf bench)))) r ⌝ }
 {
     let even = bench.even;
     let odd = bench.odd;
-    parts::reading(bench.head, &even, &odd, names, counts)
+    parts::support(bench.head, &even, &odd, names, counts)
 }

@@ -5,7 +5,7 @@ ghost use mathlib.Core.Bool.{_||_};
 ghost use lib.Dec.{ltb};
 ghost use mathlib.Core.List.{[]};
 ghost use Rattle.message.specs.Limits.{lastView};
-ghost use Rattle.bench.specs.Layout.{outOfRange, tooShort};
+ghost use Rattle.bench.specs.Layout.{outOfRange, tooFewPlaces};
 ghost use Rattle.bench.specs.Record.{benchFrom, anyPlace, namesBeyond, beyond};
 ghost use Rattle.calls.specs.Steps.{badSets};
 use agreement::MOST_SENDERS;
@@ -30,7 +30,7 @@ pub(crate) fn is_out_of_range(n: u8, own: u8) -> bool
 
 // A lent list is too short.
 pub(crate) fn is_short(names: &[u64], counts: &[u16]) -> bool
-    ensures { λ r. ⌜ r ≡ tooShort (now (names .entry)) (now (counts .entry)) ⌝ }
+    ensures { λ r. ⌜ r ≡ tooFewPlaces (now (names .entry)) (now (counts .entry)) ⌝ }
 {
     (names.len() < LEAST_LENT) | (counts.len() < LEAST_LENT)
 }

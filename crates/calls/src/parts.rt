@@ -5,13 +5,13 @@ ghost use Rattle.bench.specs.Calendar.{viewOf, placeIn, actAt};
 ghost use Rattle.bench.specs.Record.{benchFrom, beatOf};
 ghost use Rattle.bench.specs.ByRecord.{beginOf, receiveOf, actOf};
 ghost use Rattle.bench.specs.Answers.{heldWith, coreWith, BeginGives, ReceiveGives, ActGives};
-ghost use Rattle.bench.specs.Readings.{ReadingGives};
+ghost use Rattle.bench.specs.Support.{SupportGives};
 use super::acts::act_at;
 use super::beginning::begun;
+use super::counting::read_at;
 use super::filing::take;
 use super::limits::is_beyond;
 use super::limits::is_short;
-use super::readings::read_at;
 use super::record::beat_of;
 use super::record::is_idle;
 use super::record::is_not_above_last;
@@ -164,8 +164,8 @@ pub fn act(
 
 // What the act of the head's beat reads of the agreement before; proposals do not matter to it. It is no call: nothing is refused,
 // and nothing changes.
-pub fn reading(h: Head, even: &[u8; 32], odd: &[u8; 32], names: &[u64], counts: &[u16]) -> Counted
-    ensures { λ r. ⌜ ReadingGives (coreWith (benchFrom h (now (even .entry)) (now (odd .entry)) [] []) (now (names .entry)) (now (counts .entry)))
+pub fn support(h: Head, even: &[u8; 32], odd: &[u8; 32], names: &[u64], counts: &[u16]) -> Counted
+    ensures { λ r. ⌜ SupportGives (coreWith (benchFrom h (now (even .entry)) (now (odd .entry)) [] []) (now (names .entry)) (now (counts .entry)))
         (viewOf (beatOf (benchFrom h (now (even .entry)) (now (odd .entry)) [] [])))
         (actAt (placeIn (beatOf (benchFrom h (now (even .entry)) (now (odd .entry)) [] [])))) r ⌝ }
 {

@@ -9,7 +9,7 @@ use mathlib.Core.Bool.{Bool, true, false, not, _&&_, false≢true, and-eq-true-i
 use lib.Dec.{eqb, leb, ltb}
 use borrow.Author.Tests.{eqb-true, ne-eqb, ltb-true, lt-ltb, le-leb}
 use Rattle.message.specs.Logs.{sameLog}
-use Rattle.message.specs.Message.{Content, Meaning, logMessage, proposalMessage, Reading, refused, means, readOf}
+use Rattle.message.specs.Message.{Content, Meaning, logMessage, proposalMessage, Parsed, refused, means, readOf}
 use Rattle.message.proofs.LogLaws.{sameLog-iff}
 use Rattle.agreement.specs.Sets.{weigh}
 use Rattle.agreement.specs.Filing.{Word, first, second, known}
@@ -44,7 +44,7 @@ onlyIf true l = l ∷ []
 onlyIf false l = []
 
 -- of a message read, and of one made
-unfoldable pub sentRead : History → Reading → List SentLog
+unfoldable pub sentRead : History → Parsed → List SentLog
 sentRead p (refused k) = []
 sentRead p (means (logMessage m)) = onlyIf (isNew (wordFor p (logMessage m))) (record { beat = beatNow p; content = m })
 sentRead p (means (proposalMessage m priority)) = []

@@ -61,7 +61,7 @@ pub record Reads (H : Hearing) (r k s g : ℕ) : Type 0 where
   pub in-window : g ≤ H .close k
 
 -- How rule-keepers vote.
-pub record Run (H : Hearing) : Type 1 where
+pub record Execution (H : Hearing) : Type 1 where
   -- senders are below n, each has its weight, and no vote is made after the agreement `last`
   pub n : ℕ
   pub w : ℕ → ℕ
@@ -98,7 +98,7 @@ pub record Run (H : Hearing) : Type 1 where
 
 -- Rule-keeper r may decide L in agreement k: L has the grade, on a snapshot from before the look and read after the next votes. It need not be the
 -- longest such log.
-pub record Decides (H : Hearing) (R : Run H) (r k : ℕ) (L : Log) : Type 0 where
+pub record Decides (H : Hearing) (R : Execution H) (r k : ℕ) (L : Log) : Type 0 where
   pub s : ℕ
   pub g : ℕ
   pub reads : Reads H r k s g

@@ -28,6 +28,6 @@ pub mod Checks
 pub mod TypedChecks
 pub mod Computed
 pub mod Witness
-pub mod Idle
-pub mod ShutOut
+pub mod Needed
+pub mod Excluded
 pub mod Readable

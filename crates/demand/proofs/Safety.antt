@@ -12,10 +12,10 @@ use Rattle.message.proofs.LogLaws.{prefix-trans, compatible-swap}
 use Rattle.message.proofs.TestLaws.{either}
 use Rattle.agreement.specs.Reading.{Grade}
 use Rattle.agreement.proofs.ReadingLaws.{may-iff, validity}
-use Rattle.demand.proofs.Hearing.{Hearing, Reads, reading, Run, Decides}
+use Rattle.demand.proofs.Hearing.{Hearing, Reads, reading, Execution, Decides}
 use Rattle.demand.proofs.TwoReadings.{arrives, one-reading, two-readings, between-readings}
 
-module _ (H : Hearing) (R : Run H) where
+module _ (H : Hearing) (R : Execution H) where
   -- the votes of all members in k extend L
   abbrev Extends : Log → ℕ → Type 0
   Extends L k = (x : ℕ) (M : Log) → R .voted x k M → R .member k x ≡ true → Prefix L M

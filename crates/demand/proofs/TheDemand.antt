@@ -1,4 +1,4 @@
--- Demand 3 of the bench: its record and lists stay tied to its history, call by call, and so it is faithful. Assumes nothing.
+-- Demand 3 of the bench: its record and lists stay refined to its history, call by call, and so it is faithful. Assumes nothing.
 use Prim.Native.Nat.{ℕ}
 use mathlib.Core.Bool.{false}
 use mathlib.Core.Option.{some, none}
@@ -12,8 +12,8 @@ use Rattle.bench.specs.Causes.{openCauses}
 use Rattle.bench.specs.History.{History, fresh, openRefusal}
 use Rattle.bench.specs.Record.{freshBench, Bench}
 use Rattle.bench.specs.ByRecord.{openOf}
-use Rattle.bench.proofs.Ties.{Tie}
-use Rattle.bench.proofs.CallTies.{Agrees, begin-agrees, receive-agrees, open-tie}
+use Rattle.bench.proofs.Refinement.{Refines}
+use Rattle.bench.proofs.CallRefinement.{Agrees, begin-agrees, receive-agrees, open-refines}
 use Rattle.bench.proofs.Refusals.{open-refused, open-done, open-none, open-same, begin-lent}
 use Rattle.bench.proofs.Acting.{act-agrees}
 use Rattle.demand.specs.Demand.{Way, byValue, onLent, call, OpensRightly, OpenedAs, Demand3}
@@ -28,12 +28,12 @@ either-way onLent x (receive bytes) = refl
 either-way onLent x (act block priority out) = refl
 
 -- each call agrees with the history's
-agrees-by-value : (S : Seat) (x : State) (p : History) (c : Call) → Tie S (coreOf x) p → Typed c → Agrees S x p c (call theBench byValue x c)
+agrees-by-value : (S : Seat) (x : State) (p : History) (c : Call) → Refines S (coreOf x) p → Typed c → Agrees S x p c (call theBench byValue x c)
 agrees-by-value S x p (begin b) t y = begin-agrees S x p t b
 agrees-by-value S x p (receive bytes) t y = receive-agrees S x p t bytes (y .0)
 agrees-by-value S x p (act block priority out) t y = act-agrees S x p t block priority out y
 
-agrees : (S : Seat) (w : Way) (x : State) (p : History) (c : Call) → Tie S (coreOf x) p → Typed c → Agrees S x p c (call theBench w x c)
+agrees : (S : Seat) (w : Way) (x : State) (p : History) (c : Call) → Refines S (coreOf x) p → Typed c → Agrees S x p c (call theBench w x c)
 agrees S w x p c t y = subst (Agrees S x p c) (sym (either-way w x c)) (agrees-by-value S x p c t y)
 
 -- ---- Open
@@ -56,21 +56,21 @@ module _ (T : Terms) (own : ℕ) (l : Lent) where
 opens-rightly : OpensRightly theBench
 opens-rightly = record { refuses = λ T own l k t e. refuses T own l k e; opens = λ T own l t e. opens T own l e }
 
-opens-tied : (T : Terms) (own : ℕ) (x : State) → OpenedAs theBench T own x → Tie (seatOf T own) (coreOf x) (fresh (seatOf T own))
-opens-tied T own x o =
+opens-refined : (T : Terms) (own : ℕ) (x : State) → OpenedAs theBench T own x → Refines (seatOf T own) (coreOf x) (fresh (seatOf T own))
+opens-refined T own x o =
     let g = given-fresh T own (x .lent) (x .bench) (o .given) in
-    subst (λ (b : Bench). Tie (seatOf T own) (record { bench = b; names = x .lent .names; counts = x .lent .counts }) (fresh (seatOf T own))) (g .2)
-    (open-tie T own (x .lent) (g .0) (g .1) (o .typed .names .0) (o .typed .counts .0))
+    subst (λ (b : Bench). Refines (seatOf T own) (record { bench = b; names = x .lent .names; counts = x .lent .counts }) (fresh (seatOf T own))) (g .2)
+    (open-refines T own (x .lent) (g .0) (g .1) (o .typed .names .0) (o .typed .counts .0))
 
 -- ---- the theorem
 
 pub bench-simulates : Simulation theBench
 bench-simulates = record {
   rightly = opens-rightly;
-  Rel = λ S x p. Tie S (coreOf x) p;
-  opens = opens-tied;
+  Rel = λ S x p. Refines S (coreOf x) p;
+  opens = opens-refined;
   same-answer = λ S w x p c t y. agrees S w x p c t y .answered;
-  keeps = λ S w x p c t y. agrees S w x p c t y .tied;
+  keeps = λ S w x p c t y. agrees S w x p c t y .refined;
   same-standing = λ S x p t. t .stand-is;
   refusals = λ S w x p c k t y e. agrees S w x p c t y .left k e;
   begins = λ S w x p b t y. ap (λ (s : Step). s .held .lent) (either-way w x (begin b)) ∙ begin-lent x b;

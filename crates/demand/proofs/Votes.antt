@@ -1,4 +1,4 @@
--- A volume that meets the premises, by any calendar with a Timetable, votes as `Run` says, so no two logs decided in it conflict. Assumes nothing.
+-- A volume that meets the premises, by any calendar with a Timetable, votes as `Execution` says, so no two logs decided in it conflict. Assumes nothing.
 use Prim.Native.Nat.{ℕ, zero, suc, _≤_, _<_}
 use native.Mathlib.Omega.{arith}
 use native.Mathlib.Nat.{le-refl}
@@ -19,7 +19,7 @@ use Rattle.bench.proofs.CallLaws.{act-ok}
 use Rattle.demand.specs.Places.{ActsAfter, MakesAfter, sendsMade, Decides}
 use Rattle.demand.specs.Premises.{Volume, seat, Keeps}
 use Rattle.demand.proofs.Hearing as protocol
-use Rattle.demand.proofs.Hearing.{reading, Run}
+use Rattle.demand.proofs.Hearing.{reading, Execution}
 use Rattle.demand.proofs.Safety.{safety}
 use Rattle.demand.proofs.Beats.{Order, same, before, behind, ordered, later}
 use Rattle.demand.proofs.Snapshots.{ReadAfter}
@@ -174,7 +174,7 @@ module _ (W : Volume) (C : Timetable (W .terms)) (Q : Keeping W) where
         (y .0, record { keeps = q .keeps; pre = q .pre; made = y .1 })
 
     -- How rule-keepers vote.
-    pub run : MajorityIn → Run (hearing W C Q D N)
+    pub run : MajorityIn → Execution (hearing W C Q D N)
     unfolding hearing
     run J = record {
       n = W .terms .n;

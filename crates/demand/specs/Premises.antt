@@ -28,7 +28,7 @@ abbrev pub Keeps : Volume → ℕ → Type 0
 Keeps W i = (i < W .terms .n) × (W .keeper i ≡ true)
 
 -- Delivery: "whatever LOG message a rule-keeper makes or passes on at beat b is with every other before that one acts at its first beat after b".
--- Its first beat b′ is the first "in which it is awake"; a bench that never acts again is owed nothing. "once that window has passed, nothing is
+-- Its first beat b′ is the first "in which it is awake"; a bench that no-eight-or-nine acts again is owed nothing. "once that window has passed, nothing is
 -- owed": b′ is at most the last beat of the LOG's window. It may have been handed over in any gathering with the view open, an earlier one or one
 -- not acted in. A LOG under the bench's own number, which by the numbers it made itself, need not be handed back to it.
 abbrev pub Delivery : Volume → Type 0

@@ -12,7 +12,7 @@ use borrow.Author.Tests.{ltb-false, leb-false, eqb-true, le-ltb, lt-leb, eq-eqb,
 use Rattle.message.specs.Limits.{mostBlocks, lastView, headLength, nameWidth, blockWidth}
 use Rattle.message.specs.Causes.{firstFailure}
 use Rattle.message.specs.Logs.{namesOf, countsOf}
-use Rattle.message.specs.Message.{said, Meaning, logMessage, proposalMessage, logKind, proposalKind, countIn, senderIn, kindIn, byteThree, viewIn, priorityIn, namesIn, countsIn, blocksIn, contentIn, meaningIn, missized, malformed, zeroNamed, readCauses, Reading, refused, means, readOf}
+use Rattle.message.specs.Message.{said, Meaning, logMessage, proposalMessage, logKind, proposalKind, countIn, senderIn, kindIn, byteThree, viewIn, priorityIn, namesIn, countsIn, blocksIn, contentIn, meaningIn, missized, malformed, zeroNamed, readCauses, Parsed, refused, means, readOf}
 use Rattle.message.proofs.LogLaws.{names-in-step, counts-in-step, length-in-step}
 use Rattle.message.proofs.NumberLaws.{length-numbers}
 use Rattle.message.proofs.TestLaws.{either, or-false}
@@ -29,7 +29,7 @@ module _ (n : ℕ) (s : List ℕ) where
   pub read-cause : (k : ℕ) → readOf n s ≡ refused k → firstFailure (readCauses n s) ≡ some k
   unfolding readOf
   read-cause k =
-      judged refused (means (meaningIn s)) (λ (r : Reading). r ≡ refused k → firstFailure (readCauses n s) ≡ some k) (readCauses n s)
+      judged refused (means (meaningIn s)) (λ (r : Parsed). r ≡ refused k → firstFailure (readCauses n s) ≡ some k) (readCauses n s)
       (λ j e r. let q : j ≡ k = cc in e ∙ ap some q)
       (λ e r. let z : _≡_ {A = ℕ} 0 1 = cc in absurd (omega arith))
 
@@ -41,7 +41,7 @@ module _ (n : ℕ) (s : List ℕ) where
   pub accepted : (m : Meaning) → readOf n s ≡ means m → Passes (readCauses n s) × (meaningIn s ≡ m)
   unfolding readOf
   accepted m =
-      judged refused (means (meaningIn s)) (λ (r : Reading). r ≡ means m → Passes (readCauses n s) × (meaningIn s ≡ m)) (readCauses n s)
+      judged refused (means (meaningIn s)) (λ (r : Parsed). r ≡ means m → Passes (readCauses n s) × (meaningIn s ≡ m)) (readCauses n s)
       (λ k e r. let z : _≡_ {A = ℕ} 0 1 = cc in absurd (omega arith))
       (λ e r. (passes (readCauses n s) e, cc))
 

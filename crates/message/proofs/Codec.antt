@@ -1,4 +1,4 @@
--- Reading undoes writing and writing undoes reading: one meaning, "one writing" (document 01, "The message"). Assumes nothing.
+-- Parsed undoes writing and writing undoes reading: one meaning, "one writing" (document 01, "The message"). Assumes nothing.
 use Prim.Native.Nat.{ℕ, zero, suc, _+_, _*_, _^_, _≤_, _<_}
 use native.Mathlib.Omega.{arith}
 use mathlib.Core.Path.{_≡_, refl, sym, ap, subst, _∙_}

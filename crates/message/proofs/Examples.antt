@@ -7,7 +7,7 @@ use Rattle.message.specs.Choice.{anyOf}
 use Rattle.message.specs.Causes.{firstFailure, judgedBy}
 use Rattle.message.specs.Numbers.{numberAt, numbersAt}
 use Rattle.message.specs.Logs.{Block, Log, inStep}
-use Rattle.message.specs.Message.{Content, logMessage, proposalMessage, meaningIn, malformed, Reading, refused, means, readOf}
+use Rattle.message.specs.Message.{Content, logMessage, proposalMessage, meaningIn, malformed, Parsed, refused, means, readOf}
 
 -- ---- the rows
 
@@ -15,9 +15,9 @@ use Rattle.message.specs.Message.{Content, logMessage, proposalMessage, 
 pub record Row : Type 0 where
   pub benches : ℕ
   pub bytes : List ℕ
-  pub reading : Reading
+  pub reading : Parsed
 
-abbrev row : ℕ → List ℕ → Reading → Row
+abbrev row : ℕ → List ℕ → Parsed → Row
 row n s r = record { benches = n; bytes = s; reading = r }
 
 -- the first 16 bytes: the view is 1,000,000 where its lowest byte is 64, and the one after where it is 65

@@ -10,7 +10,7 @@ pub mod ListedLaws
 pub mod WrittenFields
 pub mod Acceptance
 pub mod Codec
-pub mod Readings
+pub mod ParsedLaws
 pub mod GoodLogs
 pub mod Examples
 -- What the public functions promise, inside their limits:

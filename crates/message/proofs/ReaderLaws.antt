@@ -9,7 +9,7 @@ use borrow.Author.Tests.{lt-ltb, le-ltb, le-leb, lt-leb, ltb-false, eqb-true, no
 use lib.Dec.{ltb, eqb}
 use lib.ListN.{length, getD, drop}
 use Rattle.message.specs.Limits.{mostBlocks, lastView, headLength, nameWidth, blockWidth}
-use Rattle.message.specs.Message.{logKind, proposalKind, viewIn, priorityIn, malformed, anyZero, zeroNamed, namesIn, meaningIn, readCauses, means, readOf, readingOf}
+use Rattle.message.specs.Message.{logKind, proposalKind, viewIn, priorityIn, malformed, anyZero, zeroNamed, namesIn, meaningIn, readCauses, means, readOf, parsedOf}
 use Rattle.message.proofs.TestLaws.{or-false}
 use Rattle.message.proofs.CauseLaws.{FailsBy, first-failure}
 use Rattle.message.proofs.Acceptance.{read-refused, accepts, meaning-log, meaning-other}
@@ -29,45 +29,45 @@ module _ (n : ℕ) (s : List ℕ) where
   abbrev From : ℕ → ℕ → Type 0
   From i j = FailsBy (drop i (readCauses n s)) j
 
-  by-cause : (j : ℕ) → From 0 j → readingOf s (Refused j) ≡ readOf n s
-  unfolding readingOf
+  by-cause : (j : ℕ) → From 0 j → parsedOf s (Refused j) ≡ readOf n s
+  unfolding parsedOf
   by-cause j f = sym (read-refused n s j (first-failure (readCauses n s) j f))
 
-  pub read-1 : length s < headLength → readingOf s (Refused 1) ≡ readOf n s
+  pub read-1 : length s < headLength → parsedOf s (Refused 1) ≡ readOf n s
   read-1 h = by-cause 1 (inl (lt-ltb (length s) headLength h, refl))
 
   module _ (long : headLength ≤ length s) (k : ℕ) (count : k ≡ getD s 0 0) where
     past-1 : (j : ℕ) → From 1 j → From 0 j
     past-1 j f = inr (le-ltb (length s) headLength long, f)
 
-    pub read-2 : (ltb mostBlocks k || not (eqb (length s) (headLength + blockWidth * k))) ≡ true → readingOf s (Refused 2) ≡ readOf n s
+    pub read-2 : (ltb mostBlocks k || not (eqb (length s) (headLength + blockWidth * k))) ≡ true → parsedOf s (Refused 2) ≡ readOf n s
     read-2 e = by-cause 2 (past-1 2 (inl (rw (← count) e, refl)))
 
     module _ (fine : (ltb mostBlocks k || not (eqb (length s) (headLength + blockWidth * k))) ≡ false) (ill : Bool) (form : ill ≡ malformed s) where
       past-2 : (j : ℕ) → From 2 j → From 0 j
       past-2 j f = past-1 j (inr (rw (← count) fine, f))
 
-      pub read-3 : ill ≡ true → readingOf s (Refused 3) ≡ readOf n s
+      pub read-3 : ill ≡ true → parsedOf s (Refused 3) ≡ readOf n s
       read-3 e = by-cause 3 (past-2 3 (inl (sym form ∙ e, refl)))
 
       past-3 : ill ≡ false → (j : ℕ) → From 3 j → From 0 j
       past-3 e j f = past-2 j (inr (sym form ∙ e, f))
 
-      pub read-4 : ill ≡ false → n ≤ getD s 1 0 → readingOf s (Refused 4) ≡ readOf n s
+      pub read-4 : ill ≡ false → n ≤ getD s 1 0 → parsedOf s (Refused 4) ≡ readOf n s
       read-4 e h = by-cause 4 (past-3 e 4 (inl (le-leb n (getD s 1 0) h, refl)))
 
       module _ (well : ill ≡ false) (known : getD s 1 0 < n) (view : ℕ) (at : view ≡ viewIn s) where
         past-4 : (j : ℕ) → From 4 j → From 0 j
         past-4 j f = past-3 well j (inr (lt-leb n (getD s 1 0) known, f))
 
-        pub read-5 : lastView < view → readingOf s (Refused 5) ≡ readOf n s
+        pub read-5 : lastView < view → parsedOf s (Refused 5) ≡ readOf n s
         read-5 h = by-cause 5 (past-4 5 (inl (rw (← at) (lt-ltb lastView view h), refl)))
 
         module _ (early : view ≤ lastView) (zero : Bool) (found : zero ≡ anyZero (namesIn s k)) where
           seen : zero ≡ zeroNamed s
           seen = rw (← count) found
 
-          pub read-6 : zero ≡ true → readingOf s (Refused 6) ≡ readOf n s
+          pub read-6 : zero ≡ true → parsedOf s (Refused 6) ≡ readOf n s
           read-6 e = by-cause 6 (past-4 6 (inr (rw (← at) (le-ltb lastView view early), inl (sym seen ∙ e, refl))))
 
           read-on : zero ≡ false → readOf n s ≡ means (meaningIn s)
@@ -75,13 +75,13 @@ module _ (n : ℕ) (s : List ℕ) where
               accepts n s
               (le-ltb (length s) headLength long, (rw (← count) fine, (sym form ∙ well, (lt-leb n (getD s 1 0) known, (rw (← at) (le-ltb lastView view early), (sym seen ∙ e, tt))))))
 
-          pub read-log : zero ≡ false → getD s 2 0 ≡ logKind → readingOf s (Log (record { view = view; sender = getD s 1 0; blocks = getD s 0 0 })) ≡ readOf n s
-          unfolding readingOf
+          pub read-log : zero ≡ false → getD s 2 0 ≡ logKind → parsedOf s (Log (record { view = view; sender = getD s 1 0; blocks = getD s 0 0 })) ≡ readOf n s
+          unfolding parsedOf
           read-log e h = rw at (sym (read-on e ∙ ap means (meaning-log s h)))
 
           pub read-proposal : (priority : ℕ) → zero ≡ false → (getD s 2 0 ≡ logKind → ⊥) → priority ≡ priorityIn s
-              → readingOf s (Proposal (record { view = view; sender = getD s 1 0; blocks = getD s 0 0 }) priority) ≡ readOf n s
-          unfolding readingOf
+              → parsedOf s (Proposal (record { view = view; sender = getD s 1 0; blocks = getD s 0 0 }) priority) ≡ readOf n s
+          unfolding parsedOf
           read-proposal priority e h p = rw (at, p) (sym (read-on e ∙ ap means (meaning-other s h)))
 
 -- the test of refusal 3, on the bytes it reads

@@ -137,9 +137,9 @@ zeroNamed s = anyZero (namesIn s (countIn s))
 -- ---- reading
 
 -- What reading gives: the number of the first refusal that holds, or the meaning.
-pub data Reading : Type 0 where
-  refused : ℕ → Reading
-  means : Meaning → Reading
+pub data Parsed : Type 0 where
+  refused : ℕ → Parsed
+  means : Meaning → Parsed
 
 -- 1 to 6 in their order
 abbrev pub readCauses : ℕ → List ℕ → List Cause
@@ -152,7 +152,7 @@ readCauses n s =
     ∷ by 6 (zeroNamed s)
     ∷ []
 
-unfoldable pub readOf : ℕ → List ℕ → Reading
+unfoldable pub readOf : ℕ → List ℕ → Parsed
 readOf n s = judgedBy (readCauses n s) refused (means (meaningIn s))
 
 -- ---- the reader's answer: what each case of the enum says of the bytes that were read
@@ -160,10 +160,10 @@ readOf n s = judgedBy (readCauses n s) refused (means (meaningIn s))
 abbrev pub contentOf : List ℕ → Head → Content
 contentOf s h = record { sender = h .sender; view = h .view; log = blocksIn s (h .blocks) }
 
-unfoldable pub readingOf : List ℕ → Message → Reading
-readingOf s (answers.Refused number) = refused number
-readingOf s (answers.Log h) = means (logMessage (contentOf s h))
-readingOf s (answers.Proposal h priority) = means (proposalMessage (contentOf s h) priority)
+unfoldable pub parsedOf : List ℕ → Message → Parsed
+parsedOf s (answers.Refused number) = refused number
+parsedOf s (answers.Log h) = means (logMessage (contentOf s h))
+parsedOf s (answers.Proposal h priority) = means (proposalMessage (contentOf s h) priority)
 
 -- ---- meanings in range: what may be written and is then read back
 

@@ -1,9 +1,9 @@
-// Reading a message.
+// Parsed a message.
 ghost use mathlib.Core.Path.{_≡_};
 ghost use Prim.Native.Nat.{_+_, _*_, _≤_};
 ghost use lib.ListN.{length};
 ghost use Rattle.message.specs.Limits.{headLength, nameWidth};
-ghost use Rattle.message.specs.Message.{namesIn, malformed, anyZero, readOf, readingOf};
+ghost use Rattle.message.specs.Message.{namesIn, malformed, anyZero, readOf, parsedOf};
 use super::BLOCK_WIDTH;
 use super::HEAD_LENGTH;
 use super::Head;
@@ -44,7 +44,7 @@ fn zero_named(s: &[u8], mut k: usize) -> bool
 
 // What the bytes mean in a register of n benches, or the first refusal of 1 to 6 that holds.
 pub fn read(n: u8, bytes: &[u8]) -> Message
-    ensures { λ r. ⌜ readingOf (now (bytes .entry)) r ≡ readOf n (now (bytes .entry)) ⌝ }
+    ensures { λ r. ⌜ parsedOf (now (bytes .entry)) r ≡ readOf n (now (bytes .entry)) ⌝ }
 {
     let len = bytes.len();
     if len < HEAD_LENGTH {

@@ -25,7 +25,7 @@ use Rattle.agreement.specs.declared.Grade.the-variants.{Longest}
 use Rattle.bench.specs.Acts.{propose, vote, makes}
 use Rattle.bench.specs.Record.{agreementOf, proposalsOf, withAgreement, anyPlace, beyondAgreement, beyondProposals, beyond}
 use Rattle.bench.specs.ByRecord.{openOf, beginOf, keptAgreement, keptProposals, receiveOf, actOf, actedOf, usedOf, settled, snappedBy, changed, fileMessage}
-use Rattle.bench.specs.Readings.{agreementBefore}
+use Rattle.bench.specs.Support.{agreementBefore}
 use Rattle.run.specs.Roll.{freshBuffer, rightBody, wrongMark, misfits, misshapen, callAt, callsFrom}
 use Rattle.run.specs.RollText.{freshLists}
 use Rattle.run.specs.Held.{heldAfter, bodyFrom, heldAt}

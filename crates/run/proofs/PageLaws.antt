@@ -19,7 +19,7 @@ use Rattle.bench.specs.Layout.{Lent}
 use Rattle.bench.specs.Calendar.{Act}
 use Rattle.bench.specs.Calls.{Core, coreOf}
 use Rattle.bench.specs.Answers.{heldWith}
-use Rattle.bench.specs.Readings.{ReadingGives}
+use Rattle.bench.specs.Support.{SupportGives}
 use Rattle.calls.specs.Steps.{Leaves}
 use Rattle.bench.specs.Record.{Bench}
 use Rattle.bench.specs.declared.Counted.{Counted}
@@ -113,7 +113,7 @@ module _ (c : Counted) (at : ℕ) (l : List ℕ) (p : ℕ) (m : List ℕ) where
   unfolding readBytes
   read-longest i k e h = rw e h
 
-pub counts-few : (x : Core) (v : ℕ) (a : Act) (c : Counted) → ReadingGives x v a c → Few c
+pub counts-few : (x : Core) (v : ℕ) (a : Act) (c : Counted) → SupportGives x v a c → Few c
 counts-few x v a c g = record { supporters = g .fewSupporters; senders = g .fewSenders }
 
 -- ---- the page

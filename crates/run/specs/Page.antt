@@ -17,7 +17,7 @@ use Rattle.bench.specs.Layout.{Lent}
 use Rattle.bench.specs.Calendar.{viewOf, placeIn, actAt}
 use Rattle.bench.specs.Calls.{State, coreOf}
 use Rattle.bench.specs.Record.{beatOf, Bench}
-use Rattle.bench.specs.Readings.{ReadingGives}
+use Rattle.bench.specs.Support.{SupportGives}
 use Rattle.bench.specs.declared.Counted.{Counted}
 use Rattle.run.specs.Roll.{eventsOf, misshapen}
 use Rattle.run.specs.Held.{openRefuses}
@@ -71,7 +71,7 @@ pageLength = 337
 
 -- what the act that ends the gathering of the record's beat would read
 abbrev pub ReadsNow : State → Counted → Type 0
-ReadsNow x c = ReadingGives (coreOf x) (viewOf (beatOf (x .bench))) (actAt (placeIn (beatOf (x .bench)))) c
+ReadsNow x c = SupportGives (coreOf x) (viewOf (beatOf (x .bench))) (actAt (placeIn (beatOf (x .bench)))) c
 
 -- ---- the promise
 

@@ -112,7 +112,7 @@ pub fn roll_page(
     let bench = opened(roll, names, counts);
     let ran = run_events(bench, names, counts, roll, calls, page, 0, false);
     let held = ran.bench;
-    let read = calls::reading(held, names, counts);
+    let read = calls::support(held, names, counts);
     put_page(page, held, read)
 }
 

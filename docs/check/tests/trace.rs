@@ -47,7 +47,7 @@ Edits stand in `must-fail/` of a crate, `./more` tries the others. Contracts are
 | B1 | `fresh`, `step` (one call, `own`) and `after` in specs/History.antt; `struct Bench` in src/lib.rt | `bench`, `lib::open` | \
 never_decides, byte_past+ (message); `a_test_name` |
 | D2 | `open` in crates/calls; `fresh`, in crates/bench/specs | model/tests/rolls.rs | |
-| D3 | *Layers: bench and run.* `open` in src/lib.rt and `Demand3` in specs/Demand.antt | the laws of proofs/Ties.antt | opens_nothing |
+| D3 | *Layers: bench and run.* `open` in src/lib.rt and `Demand3` in specs/Demand.antt | the laws of proofs/Refinement.antt | opens_nothing |
 
 Of `read`: byte_past+, never_decides
 (bench).
@@ -59,13 +59,13 @@ fn tree() -> Tree {
         ("crates/bench/specs/History.antt", history),
         ("crates/bench/src/lib.rt", "pub struct Bench { own: u8 }\n"),
         ("crates/bench/must-fail/never_decides.edit", ""),
-        ("crates/bench/proofs/Ties.antt", "tie : ℕ\n"),
+        ("crates/bench/proofs/Refinement.antt", "tie : ℕ\n"),
         ("crates/calls/src/lib.rt", "pub fn open() {}\npub fn begin() {}\n"),
         ("crates/lent/src/lib.rt", "pub fn begin() {}\n"),
         ("crates/demand/specs/Demand.antt", "Demand3 : ℕ\n"),
         ("crates/demand/must-fail/opens_nothing.edit", ""),
         ("crates/message/more-edits/byte_past.edit", ""),
-        ("crates/message/proofs/Ties.antt", "tie : ℕ\n"),
+        ("crates/message/proofs/Refinement.antt", "tie : ℕ\n"),
         ("crates/message/src/lib.rt", "pub fn read() {}\n"),
         ("model/tests/rolls.rs", "fn a_test_name() {}\n"),
         ("more", ""),
@@ -134,7 +134,7 @@ fn a_path_is_below_a_crate_of_the_rows_layer() {
     assert_eq!(
         names_said("*Layers: bench and run.*", "*Layer: the run: all of it.*"),
         "\ndocs/SAMPLE.md:7: there is no src/lib.rt in demand\
-         \ndocs/SAMPLE.md:7: there is no proofs/Ties.antt in demand"
+         \ndocs/SAMPLE.md:7: there is no proofs/Refinement.antt in demand"
     );
     assert!(names_said("| D3 | *Layers: bench and run.*", "| D3 |").contains(":7: src/lib.rt does not declare open"));
     assert!(names_said("bench and run.*", "stool.*").contains(":7: there is no layer called stool"));
@@ -154,7 +154,7 @@ fn a_path_that_may_be_of_two_crates_is_found() {
     assert!(names_said("; `struct Bench` in src/lib.rt", "; all of src/lib.rt").contains("src/lib.rt may be crates/bench/"));
     assert_eq!(names_said("; `struct Bench` in src/lib.rt", "; all of src/"), "");
     // outside of the table every crate may be meant
-    assert!(names_said("Of `read`:", "Of proofs/Ties.antt:").contains(":9: proofs/Ties.antt may be crates/bench/"));
+    assert!(names_said("Of `read`:", "Of proofs/Refinement.antt:").contains(":9: proofs/Refinement.antt may be crates/bench/"));
 }
 
 #[test]

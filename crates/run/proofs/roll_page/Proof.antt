@@ -6,7 +6,7 @@ use Rattle.run.proofs.roll_page.Statement.{statement}
 use Rattle.run.proofs.roll_page.Tie as tie
 use Rattle.run.proofs.roll_page.Reads as reads
 use Rattle.run.proofs.roll_page.Lts as lts
-use Rattle.calls.proofs.reading.Reads as reading-reads
+use Rattle.calls.proofs.support.Reads as support-reads
 use Rattle.run.proofs.events.run_events.Reads as run-events-reads
 use Rattle.run.proofs.opening.opened.Reads as opened-reads
 use Rattle.run.proofs.page.is_no_page.Reads as is-no-page-reads
@@ -39,8 +39,8 @@ run-events-requires c κs =
       room-silent _ _,
     )
 
-reading-requires : tie.Need-reading-requires
-reading-requires c κs = search needs
+support-requires : tie.Need-support-requires
+support-requires c κs = search needs
 
 put-page-requires : tie.Need-put-page-requires
 put-page-requires c κs =
@@ -62,7 +62,7 @@ returns-2 c =
     let shown = c .before .before in
     let ran = shown .before .before .before .before .before .before .before .before .before .before .before .before in
     let tested = ran .before .before .before .before .before .before .before in
-    page-whole _ _ _ _ _ (tested .before .is-no-page .ensures) (tested .if1 .left) _ (ran .before .before .before .before .opened .ensures) _ _ _ _ _ (ran .run-events .ensures) _ (shown .before .before .reading .ensures) _ _ (shown .put-page .ensures .0)
+    page-whole _ _ _ _ _ (tested .before .is-no-page .ensures) (tested .if1 .left) _ (ran .before .before .before .before .opened .ensures) _ _ _ _ _ (ran .run-events .ensures) _ (shown .before .before .support .ensures) _ _ (shown .put-page .ensures .0)
 
 pub roll-page-spec : {M : Type 1} → statement M
 roll-page-spec =
@@ -75,7 +75,7 @@ roll-page-spec =
     returns
     opened-requires
     run-events-requires
-    reading-requires
+    support-requires
     put-page-requires
     same-length-4
     same-length-5

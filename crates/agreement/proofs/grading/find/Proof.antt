@@ -1,8 +1,8 @@
-use Rattle.agreement.proofs.FindLaws.{climb-asks, find-found, find-none}
+use Rattle.agreement.proofs.FindLaws.{extend-asks, find-found, find-none}
 use borrow.Author.Needs.{needs}
 use Rattle.agreement.proofs.grading.find.Statement.{statement}
 use Rattle.agreement.proofs.grading.find.Tie as tie
-use Rattle.agreement.proofs.grading.climb.Reads as climb-reads
+use Rattle.agreement.proofs.grading.extend.Reads as extend-reads
 use Rattle.agreement.proofs.sets.in_both.Reads as in-both-reads
 use Rattle.agreement.proofs.sets.size.Reads as size-reads
 use Rattle.agreement.proofs.tally.senders.Reads as senders-reads
@@ -19,8 +19,8 @@ size-requires c κs = search needs
 mul-if1 : tie.Need-mul-if1
 mul-if1 c = search needs
 
-climb-requires : tie.Need-climb-requires
-climb-requires c κs = climb-asks _ _ _ _ _ _ _ _ _ _ (c .before .before .before .in-both .ensures) (c .before .before .senders .ensures .0) (c .before .size .ensures .0) (search needs) (c .if1 .taken)
+extend-requires : tie.Need-extend-requires
+extend-requires c κs = extend-asks _ _ _ _ _ _ _ _ _ _ (c .before .before .before .in-both .ensures) (c .before .before .senders .ensures .0) (c .before .size .ensures .0) (search needs) (c .if1 .taken)
 
 returns : tie.Need-returns
 returns c = search find-found
@@ -36,6 +36,6 @@ find-spec =
     senders-requires
     size-requires
     mul-if1
-    climb-requires
+    extend-requires
     returns
     returns-2)
