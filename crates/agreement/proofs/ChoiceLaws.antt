@@ -259,9 +259,6 @@ module _ (names counts : List ℕ) (base : ℕ) (g : Proposals) (a k : ℕ) wher
   chosen-best i false t e = best-is (fits names counts base g a k) (λ (j : ℕ). getD (g .priorities) j 0) mostSenders i (rw t at e)
 
   module _ (i : ℕ) (e : choiceOf names counts base g a k ≡ some i) where
-    pub choice-below : i < mostSenders
-    choice-below = chosen-best i (lacksRoom names counts base) refl e .below
-
     pub choice-fits : fits names counts base g a k i ≡ true
     choice-fits = chosen-best i (lacksRoom names counts base) refl e .passes
 

@@ -28,7 +28,7 @@ unfolding weigh
 count-none p = refl
 
 -- one more sender
-pub count-next : (p : ℕ → Bool) (n m i : ℕ) → n ≡ count i p → m ≡ share (p i) 1 → n + m ≡ count (i + 1) p
+count-next : (p : ℕ → Bool) (n m i : ℕ) → n ≡ count i p → m ≡ share (p i) 1 → n + m ≡ count (i + 1) p
 unfolding weigh
 count-next p n m i e f =
     let s : suc i ≡ i + 1 = omega arith in
@@ -59,7 +59,7 @@ some-more : (t : Bool) (n : ℕ) → ltb 0 (share t 1 + n) ≡ (ltb 0 n || t)
 some-more true n = lt-ltb 0 (1 + n) (omega arith) ∙ either (ltb 0 n) (λ e. rw e refl) (λ e. rw e refl)
 some-more false n = let z : 0 + n ≡ n = omega arith in ap (λ (k : ℕ). ltb 0 k) z ∙ sym (or-no (ltb 0 n))
 
-pub some-next : (p : ℕ → Bool) (r x : Bool) (i : ℕ) → r ≡ ltb 0 (count i p) → x ≡ (r || p i) → x ≡ ltb 0 (count (i + 1) p)
+some-next : (p : ℕ → Bool) (r x : Bool) (i : ℕ) → r ≡ ltb 0 (count i p) → x ≡ (r || p i) → x ≡ ltb 0 (count (i + 1) p)
 unfolding weigh
 some-next p r x i e f =
     let s : suc i ≡ i + 1 = omega arith in
@@ -142,7 +142,7 @@ module _ (p : ℕ → Bool) where
   set-none = record { at = λ j h. absurd (omega arith); below = omega arith }
 
   module _ (set j : ℕ) (h : SetOf p j set) where
-    pub set-yes : p j ≡ true → SetOf p (j + 1) (adding set j)
+    set-yes : p j ≡ true → SetOf p (j + 1) (adding set j)
     set-yes e = record {
       at = λ k q. elim (decLe j k) [
         | yes a ↦ let t : k ≡ j = omega arith in ap (λ (i : ℕ). member (adding set j) i) t ∙ adding-same set j ∙ sym e ∙ ap p (sym t)
@@ -151,7 +151,7 @@ module _ (p : ℕ → Bool) where
       below = adding-lt set j (j + 1) (lt-of-lt-of-le (h .below) (pow-mono (omega arith))) (omega arith);
     }
 
-    pub set-no : p j ≡ false → SetOf p (j + 1) set
+    set-no : p j ≡ false → SetOf p (j + 1) set
     set-no e = record {
       at = λ k q. elim (decLe j k) [
         | yes a ↦ let t : k ≡ j = omega arith in member-past set j k (h .below) a ∙ sym e ∙ ap p (sym t)
@@ -161,7 +161,7 @@ module _ (p : ℕ → Bool) where
     }
 
     -- no sender from j on is in it
-    pub set-end : j ≤ mostSenders → ((i : ℕ) → j ≤ i → p i ≡ false) → SetOf p mostSenders set
+    set-end : j ≤ mostSenders → ((i : ℕ) → j ≤ i → p i ≡ false) → SetOf p mostSenders set
     set-end l none = record {
       at = λ k q. elim (decLe j k) [ yes a ↦ member-past set j k (h .below) a ∙ sym (none k a) | no a ↦ h .at k (omega arith) ];
       below = lt-of-lt-of-le (h .below) (pow-mono l);

@@ -90,7 +90,7 @@ module _ (names counts : List ℕ) (base : ℕ) (s : List ℕ) (i : ℕ) where
     matches-long a k h = matches-outside s names counts a k (rw (lt-leb k mostBlocks h))
 
     -- the test of the lists is the test of the logs, whatever length is stored
-    pub matches-filed : (k : ℕ) → matchesAt s names counts (placeOf base i) k ≡ sameLog (logIn s) (logAt names counts (placeOf base i) k)
+    matches-filed : (k : ℕ) → matchesAt s names counts (placeOf base i) k ≡ sameLog (logIn s) (logAt names counts (placeOf base i) k)
     matches-filed k =
         let a = placeOf base i in
         either (leb k mostBlocks)

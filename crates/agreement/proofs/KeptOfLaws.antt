@@ -25,7 +25,7 @@ add-step same x y true e h = either (same x y) (λ q. rw (q, h q .1) refl) (λ q
 add-step {A} same x y false e h = either (same x y) (λ q. rw (q, h q .1) (ap {B = Kept A} only (h q .0))) (λ q. rw q refl)
 
 -- the newest message is kept by the rule, for a test that holds of equals only
-pub keptOf-add : {A : Type 0} (same : A → A → Bool) → ((a b : A) → same a b ≡ true → a ≡ b) → (x : A) (xs : List A)
+keptOf-add : {A : Type 0} (same : A → A → Bool) → ((a b : A) → same a b ≡ true → a ≡ b) → (x : A) (xs : List A)
     → keptOf same (x ∷ xs) ≡ keep same (keptOf same xs) x
 unfolding keptOf someDiffers keep
 keptOf-add same sound x [] = refl
@@ -35,10 +35,10 @@ keptOf-add same sound x (y ∷ ys) =
 
 -- ---- the tests
 
-pub sameLog-sound : (a b : Log) → sameLog a b ≡ true → a ≡ b
+sameLog-sound : (a b : Log) → sameLog a b ≡ true → a ≡ b
 sameLog-sound a b e = sameLog-iff a b .0 e
 
-pub sameProposal-sound : (a b : Proposed) → sameProposal a b ≡ true → a ≡ b
+sameProposal-sound : (a b : Proposed) → sameProposal a b ≡ true → a ≡ b
 sameProposal-sound a b e =
     let t = and-eq-true-iff (sameLog (a .log) (b .log)) (eqb (a .priority) (b .priority)) .0 e in
     let l = sameLog-sound (a .log) (b .log) (t .0) in
@@ -72,7 +72,7 @@ module _ (heard : List Content) (m : Content) where
   heard-same = rw (mine (m .view) (m .sender)) (keptOf-add sameLog sameLog-sound (m .log) (logsFrom heard (m .view) (m .sender)))
 
   -- of another sender or view nothing changes
-  pub heard-apart : (v s : ℕ) → (eqb (m .view) v && eqb (m .sender) s) ≡ false → heardLogs (m ∷ heard) v s ≡ heardLogs heard v s
+  heard-apart : (v s : ℕ) → (eqb (m .view) v && eqb (m .sender) s) ≡ false → heardLogs (m ∷ heard) v s ≡ heardLogs heard v s
   unfolding logsFrom
   heard-apart v s e = rw e refl
 
@@ -80,7 +80,7 @@ module _ (heard : List Content) (m : Content) where
   heard-other v s d = heard-apart v s (other (m .view) (m .sender) v s d)
 
 -- where no LOG is of this view and sender
-pub heard-none : (heard : List Content) (v s : ℕ) → ((m : Content) → List·Memᴰ m heard → (v ≢ m .view) ⊎ (s ≢ m .sender))
+heard-none : (heard : List Content) (v s : ℕ) → ((m : Content) → List·Memᴰ m heard → (v ≢ m .view) ⊎ (s ≢ m .sender))
     → heardLogs heard v s ≡ nothing
 unfolding keptOf logsFrom
 heard-none [] v s h = refl
@@ -101,7 +101,7 @@ module _ (heard : List ProposalHeard) (m : ProposalHeard) where
       (keptOf-add sameProposal sameProposal-sound (record { log = m .content .log; priority = m .priority })
       (proposalsFrom heard (m .content .view) (m .content .sender)))
 
-  pub proposals-apart : (v s : ℕ) → (eqb (m .content .view) v && eqb (m .content .sender) s) ≡ false
+  proposals-apart : (v s : ℕ) → (eqb (m .content .view) v && eqb (m .content .sender) s) ≡ false
       → heardProposals (m ∷ heard) v s ≡ heardProposals heard v s
   unfolding proposalsFrom
   proposals-apart v s e = rw e refl
@@ -109,7 +109,7 @@ module _ (heard : List ProposalHeard) (m : ProposalHeard) where
   pub proposals-other : (v s : ℕ) → (v ≢ m .content .view) ⊎ (s ≢ m .content .sender) → heardProposals (m ∷ heard) v s ≡ heardProposals heard v s
   proposals-other v s d = proposals-apart v s (other (m .content .view) (m .content .sender) v s d)
 
-pub proposals-none : (heard : List ProposalHeard) (v s : ℕ)
+proposals-none : (heard : List ProposalHeard) (v s : ℕ)
     → ((m : ProposalHeard) → List·Memᴰ m heard → (v ≢ m .content .view) ⊎ (s ≢ m .content .sender)) → heardProposals heard v s ≡ nothing
 unfolding keptOf proposalsFrom
 proposals-none [] v s h = refl

@@ -26,7 +26,7 @@ some-no p h =
 pub none-passes : (p : ℕ → Bool) → ltb 0 (count mostSenders p) ≡ false → (i : ℕ) → i < mostSenders → p i ≡ false
 none-passes p e i l = weigh-none mostSenders p i (let h = ltb-false 0 (count mostSenders p) e in omega arith) l
 
-pub some-yes : (p : ℕ → Bool) (i : ℕ) → i < mostSenders → p i ≡ true → ltb 0 (count mostSenders p) ≡ true
+some-yes : (p : ℕ → Bool) (i : ℕ) → i < mostSenders → p i ≡ true → ltb 0 (count mostSenders p) ≡ true
 some-yes p i l e =
     either (ltb 0 (count mostSenders p)) (λ t. t) (λ t. absurd (false≢true (sym (none-passes p t i l) ∙ e)))
 

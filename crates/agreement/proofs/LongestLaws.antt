@@ -145,7 +145,7 @@ module _ (n : ℕ) (w : ℕ → ℕ) (R : Reading) where
         of-length L (grade-iff n w R L .0 (h .passes)) (λ M g. h .bound M (grade-candidate n w R M g) (grade-iff n w R M .1 g))
 
     -- what is computed is right
-    pub longest-is : Is n w R (longest n w R)
+    longest-is : Is n w R (longest n w R)
     unfolding longest
     longest-is = is-found (longest n w R) (found (hasGrade n w R) (candidates n R))
 

@@ -69,7 +69,7 @@ module _ (a b i : ℕ) where
   xor-digit : bitXor a b / 2 ^ i % 2 ≡ differ (a / 2 ^ i % 2) (b / 2 ^ i % 2)
   xor-digit = ap (λ (z : ℕ). z % 2) (xor-shr a b i) ∙ xor-low (a / 2 ^ i) (b / 2 ^ i)
 
-  pub member-and : member (bitAnd a b) i ≡ (member a i && member b i)
+  member-and : member (bitAnd a b) i ≡ (member a i && member b i)
   unfolding member
   member-and =
       ap (λ (z : ℕ). eqb z 1) and-digit
@@ -82,13 +82,13 @@ module _ (a b i : ℕ) where
       ∙ digits (λ (p q : ℕ). eqb (max p q) 1 ≡ (eqb p 1 || eqb q 1)) refl refl refl refl (a / 2 ^ i % 2) (b / 2 ^ i % 2) (digit-lt (a / 2 ^ i)) (digit-lt (b / 2 ^ i))
 
 -- what the first has and the second has not
-pub member-less : (a b i : ℕ) → member (bitXor a (bitAnd a b)) i ≡ (member a i && not (member b i))
+member-less : (a b i : ℕ) → member (bitXor a (bitAnd a b)) i ≡ (member a i && not (member b i))
 unfolding member
 member-less a b i =
     ap (λ (z : ℕ). eqb z 1) (xor-digit a (bitAnd a b) i ∙ ap (λ (z : ℕ). differ (a / 2 ^ i % 2) z) (and-digit a b i))
     ∙ digits (λ (p q : ℕ). eqb (differ p (min p q)) 1 ≡ (eqb p 1 && not (eqb q 1))) refl refl refl refl (a / 2 ^ i % 2) (b / 2 ^ i % 2) (digit-lt (a / 2 ^ i)) (digit-lt (b / 2 ^ i))
 
-pub less-lt : (k a b : ℕ) → a < 2 ^ k → b < 2 ^ k → bitXor a (bitAnd a b) < 2 ^ k
+less-lt : (k a b : ℕ) → a < 2 ^ k → b < 2 ^ k → bitXor a (bitAnd a b) < 2 ^ k
 less-lt k a b h l = xor-lt k a (bitAnd a b) h (and-lt k a b h l)
 
 -- ---- numbers below a power of two have no sender from there on
@@ -102,11 +102,11 @@ member-zero i = member-past 0 0 i (omega arith) (omega arith)
 
 -- ---- one sender alone
 
-pub alone-same : (i : ℕ) → member (2 ^ i) i ≡ true
+alone-same : (i : ℕ) → member (2 ^ i) i ≡ true
 unfolding member
 alone-same i = ap (λ (z : ℕ). eqb (z % 2) 1) (div-self (pow-pos i))
 
-pub alone-other : (i j : ℕ) → (j ≡ i → ⊥) → member (2 ^ i) j ≡ false
+alone-other : (i j : ℕ) → (j ≡ i → ⊥) → member (2 ^ i) j ≡ false
 unfolding member
 alone-other i j d = elim (decLe i j) [
   | yes l ↦ member-past (2 ^ i) j j (pow-lt (omega arith)) (omega arith)
@@ -155,14 +155,14 @@ pub has-is : (set i : ℕ) → eqb (set / 2 ^ i % 2) 1 ≡ member set i
 unfolding member
 has-is set i = refl
 
-pub adding-or : (set i : ℕ) → bitOr set (2 ^ i) ≡ adding set i
+adding-or : (set i : ℕ) → bitOr set (2 ^ i) ≡ adding set i
 unfolding adding
 adding-or set i =
     either (member set i)
     (λ e. rw e (let a = and-in set i e in let b = or-add-and set (2 ^ i) in omega arith))
     (λ e. rw e (let a = and-out set i e in let b = or-add-and set (2 ^ i) in omega arith))
 
-pub removing-xor : (set i : ℕ) → bitXor set (bitAnd set (2 ^ i)) ≡ removing set i
+removing-xor : (set i : ℕ) → bitXor set (bitAnd set (2 ^ i)) ≡ removing set i
 unfolding removing
 removing-xor set i =
     either (member set i)
@@ -226,7 +226,7 @@ low-ones (suc k) set =
     ∙ ones-cat k (set / 2 ^ k % 2) (set % 2 ^ k) (mod-lt set (pow-pos k))
     ∙ ap₂ (λ (x y : ℕ). x + y) (one-digit (set / 2 ^ k % 2) (digit-lt (set / 2 ^ k))) (low-ones k set)
 
-pub ones-count : (k set : ℕ) → set < 2 ^ k → ones set ≡ count k (member set)
+ones-count : (k set : ℕ) → set < 2 ^ k → ones set ≡ count k (member set)
 ones-count k set h = ap ones (sym (mod-eq-of-lt h)) ∙ low-ones k set
 
 pub size-is : (set : ℕ) → set < 2 ^ mostSenders → (ones set ≡ count mostSenders (member set)) × (ones set ≤ mostSenders)

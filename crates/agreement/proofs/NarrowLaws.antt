@@ -100,8 +100,8 @@ module _ (names counts : List ℕ) where
 pub record Narrowing (names counts lengths : List ℕ) (followers base l c name count i left next : ℕ) : Type 0 where
   pub walk : Walks followers i left
   pub room : i ≤ mostSenders
-  pub sameName : name ≡ getD names (placeOf base c + l) 0
-  pub sameCount : count ≡ getD counts (placeOf base c + l) 0
+  sameName : name ≡ getD names (placeOf base c + l) 0
+  sameCount : count ≡ getD counts (placeOf base c + l) 0
   pub set : SetOf (narrowed names counts base lengths followers l (nextBlock names counts base l c)) i next
 
 module _ (names counts lengths : List ℕ) (followers base l c : ℕ) where

@@ -59,7 +59,7 @@ pub record Alike (n : ℕ) (R T : Reading) : Type 0 where
   pub snap : (i : ℕ) → i < n → R .snap i ≡ T .snap i
   pub log : (i : ℕ) → i < n → R .single i ≡ true → R .log i ≡ T .log i
 
-pub may-cong : {n : ℕ} {R T : Reading} → Alike n R T → (i : ℕ) → i < n → maySupport R i ≡ maySupport T i
+may-cong : {n : ℕ} {R T : Reading} → Alike n R T → (i : ℕ) → i < n → maySupport R i ≡ maySupport T i
 unfolding maySupport
 may-cong a i l = let p = a .single i l in let q = a .snap i l in λ j. p j && q j
 
@@ -68,7 +68,7 @@ and-cong : (a b c d : Bool) → a ≡ b → (a ≡ true → c ≡ d) → (a && c
 and-cong true b c d p h = let q = h refl in λ i. p i && q i
 and-cong false b c d p h = rw (← p)
 
-pub supports-cong : {n : ℕ} {R T : Reading} → Alike n R T → (L : Log) (i : ℕ) → i < n → supports R L i ≡ supports T L i
+supports-cong : {n : ℕ} {R T : Reading} → Alike n R T → (L : Log) (i : ℕ) → i < n → supports R L i ≡ supports T L i
 unfolding supports
 supports-cong {R = R} {T = T} a L i l =
     and-cong (maySupport R i) (maySupport T i) (isPrefix L (R .log i)) (isPrefix L (T .log i)) (may-cong a i l)
@@ -88,7 +88,7 @@ pub record Beyond (n d : ℕ) (R : Reading) : Type 0 where
   pub heard : (i : ℕ) → n ≤ i → i < n + d → R .heard i ≡ false
   pub single : (i : ℕ) → n ≤ i → i < n + d → R .single i ≡ false
 
-pub supports-beyond : (n d : ℕ) (R : Reading) → Beyond n d R → (L : Log) (i : ℕ) → n ≤ i → i < n + d → supports R L i ≡ false
+supports-beyond : (n d : ℕ) (R : Reading) → Beyond n d R → (L : Log) (i : ℕ) → n ≤ i → i < n + d → supports R L i ≡ false
 unfolding supports maySupport
 supports-beyond n d R b L i h l = rw (b .single i h l)
 

@@ -193,7 +193,7 @@ abbrev priority : (ℕ → Kept Proposed) → ℕ → ℕ
 priority kept s = priorityOf (kept s)
 
 -- senders from n on change nothing where nothing of them is kept
-pub vote-cut : (n d : ℕ) (kept : ℕ → Kept Proposed) (L : Log) → ((i : ℕ) → n ≤ i → i < n + d → kept i ≡ nothing)
+vote-cut : (n d : ℕ) (kept : ℕ → Kept Proposed) (L : Log) → ((i : ℕ) → n ≤ i → i < n + d → kept i ≡ nothing)
     → voteAmong (n + d) kept L ≡ voteAmong n kept L
 unfolding voteAmong
 vote-cut n d kept L h = ap (orLock kept L) (best-cut n d (may L kept) (priority kept) (λ i a b. ap (mayChoose L) (h i a b)))

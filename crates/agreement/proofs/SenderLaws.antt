@@ -22,7 +22,7 @@ use Rattle.agreement.proofs.LongestLaws.{longest-iff, longest-none-iff}
 
 -- ---- one sender's logs in one view
 
-pub mem-logs : (heard : List Content) (h : Content) → Mem h heard → Mem (h .log) (logsFrom heard (h .view) (h .sender))
+mem-logs : (heard : List Content) (h : Content) → Mem h heard → Mem (h .log) (logsFrom heard (h .view) (h .sender))
 unfolding logsFrom
 mem-logs [] h i = absurd (List·Memᴰ·not-nil i)
 mem-logs (k ∷ ks) h i = go (List·Memᴰ·cases-cons i) (mem-logs ks h)

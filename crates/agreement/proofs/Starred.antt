@@ -63,7 +63,7 @@ abbrev filings : ProposalFiling → List Sent → ProposalFiling
 filings t [] = t
 filings t (o ∷ os) = filings (filing t o) os
 
-abbrev pub afterProposals : Log → List Sent → ProposalFiling
+abbrev afterProposals : Log → List Sent → ProposalFiling
 afterProposals lock os =
     filings
     (record {
@@ -74,7 +74,7 @@ afterProposals lock os =
     })
     os
 
-abbrev pub votedLog : Log → ProposalFiling → Option ℕ → Log
+abbrev votedLog : Log → ProposalFiling → Option ℕ → Log
 votedLog lock t none = logAt (t .names) (t .counts) span (length lock)
 votedLog lock t (some i) = filedLog (t .names) (t .counts) 0 (t .proposals .lengths) i
 

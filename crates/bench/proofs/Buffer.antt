@@ -174,9 +174,6 @@ module _ (s : State) (block : Block) (priority : ℕ) (out : List ℕ) where
   pub out-kept : madeIn (actOf s block priority out .answer .reply) ≡ none → actOf s block priority out .answer .out ≡ out
   out-kept e = act-out ∙ ap (λ (o : Option Meaning). outAfter o out) e
 
-  pub out-none : actOf s block priority out .answer .reply ≡ acted none → actOf s block priority out .answer .out ≡ out
-  out-none e = out-kept (ap madeIn e)
-
   module _ (m : Meaning) (e : actOf s block priority out .answer .reply ≡ acted (some m)) where
     its : Fits out (some m)
     its = subst (λ (r : Reply). Fits out (madeIn r)) e made-fits

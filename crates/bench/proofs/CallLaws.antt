@@ -24,7 +24,7 @@ use Rattle.bench.specs.History.{ActRecord, History, beatNow, notAbove, r
 
 -- ---- a call is refused and changes nothing, or is accepted
 
-pub step-refused : (S : Seat) (p : History) (c : Call) (k : ℕ) → refusal S p c ≡ some k → step S p c ≡ p
+step-refused : (S : Seat) (p : History) (c : Call) (k : ℕ) → refusal S p c ≡ some k → step S p c ≡ p
 unfolding step
 step-refused S p c k e = rw e
 
@@ -43,7 +43,7 @@ step-cases S p c = go (refusal S p c) refl
 -- ---- what it takes not to be refused
 
 -- none of its causes is a failure, and conversely
-pub unrefused : (S : Seat) (p : History) (c : Call) → refusal S p c ≡ none → Passes (causes S p c)
+unrefused : (S : Seat) (p : History) (c : Call) → refusal S p c ≡ none → Passes (causes S p c)
 unfolding refusal
 unrefused S p c e = passes (causes S p c) e
 
@@ -121,12 +121,12 @@ unfolding file
 file-last p (logMessage h) = refl
 file-last p (proposalMessage h k) = refl
 
-pub file-gathering : (p : History) (m : Meaning) → file p m .gathering ≡ p .gathering
+file-gathering : (p : History) (m : Meaning) → file p m .gathering ≡ p .gathering
 unfolding file
 file-gathering p (logMessage h) = refl
 file-gathering p (proposalMessage h k) = refl
 
-pub file-actions : (p : History) (m : Meaning) → file p m .actions ≡ p .actions
+file-actions : (p : History) (m : Meaning) → file p m .actions ≡ p .actions
 unfolding file
 file-actions p (logMessage h) = refl
 file-actions p (proposalMessage h k) = refl
@@ -145,7 +145,7 @@ pub made-gathering : (p : History) (o : Option Meaning) → fileMade p o .gather
 made-gathering p none = refl
 made-gathering p (some m) = file-gathering p m
 
-pub made-actions : (p : History) (o : Option Meaning) → fileMade p o .actions ≡ p .actions
+made-actions : (p : History) (o : Option Meaning) → fileMade p o .actions ≡ p .actions
 made-actions p none = refl
 made-actions p (some m) = file-actions p m
 
@@ -180,7 +180,7 @@ made-cases p (some m) h i = elim (filed-cases p m h i) [ inl e ↦ inl (ap {B = 
 -- ---- an accepted call
 
 -- the history after a Begin
-abbrev pub afterBegin : History → ℕ → History
+abbrev afterBegin : History → ℕ → History
 afterBegin p b = record { last = some b; gathering = true; heard = p .heard; proposals = p .proposals; actions = p .actions }
 
 pub accepted-begin : (S : Seat) (p : History) (b : ℕ) → accepted S p (begin b) ≡ afterBegin p b

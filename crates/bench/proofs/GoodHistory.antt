@@ -42,7 +42,7 @@ module _ (S : Seat) (p : History) (g : GoodHistory S p) where
   graded u (suc zero) L e = graded-good u L (gradeWith-source (S .terms .n) (weightOf (S .terms)) (heardLogs (p .heard) u) _ L e)
   graded u (suc (suc k)) L e = graded-good u L (gradeWith-source (S .terms .n) (weightOf (S .terms)) (heardLogs (p .heard) u) _ L e)
 
-  pub used-good : (v : ℕ) (a : Act) (L : Log) → usedAt S p v a ≡ some L → GoodLog L
+  used-good : (v : ℕ) (a : Act) (L : Log) → usedAt S p v a ≡ some L → GoodLog L
   unfolding usedAt
   used-good zero proposing L e = subst GoodLog (Option·some-injective [] L e) empty-good
   used-good zero voting L e = subst GoodLog (Option·some-injective [] L e) empty-good
@@ -54,7 +54,7 @@ module _ (S : Seat) (p : History) (g : GoodHistory S p) where
   used-good (suc u) snapping L e = absurd (Option·none-ne-some L e)
 
   -- a vote is the lock, or a proposal heard
-  pub vote-good : (v : ℕ) (L : Log) → GoodLog L → GoodLog (voteAmong (S .terms .n) (heardProposals (p .proposals) v) L)
+  vote-good : (v : ℕ) (L : Log) → GoodLog L → GoodLog (voteAmong (S .terms .n) (heardProposals (p .proposals) v) L)
   vote-good v L l = elim (vote-from (S .terms .n) (heardProposals (p .proposals) v) L) [
     | inl e ↦ rw e l
     | inr s ↦
@@ -158,7 +158,7 @@ fileMade-good S p none w g = g
 fileMade-good S p (some m) w g = file-good S p m w g
 
 -- a call that is accepted; a message received is within the limits once it can be read
-pub good-accepted : (S : Seat) (p : History) (c : Call) → S .own < S .terms .n → Typed c → GoodHistory S p → GoodHistory S (accepted S p c)
+good-accepted : (S : Seat) (p : History) (c : Call) → S .own < S .terms .n → Typed c → GoodHistory S p → GoodHistory S (accepted S p c)
 unfolding accepted
 good-accepted S p (begin b) lo t g = record { heard = g .heard; proposals = g .proposals; priorities = g .priorities }
 good-accepted S p (receive bytes) lo t g = fileRead-good S p (readOf (S .terms .n) bytes) (λ m e. read-writable (S .terms .n) bytes m (t .0) e) g
@@ -168,7 +168,7 @@ good-accepted S p (act block priority out) lo t g =
     (record { heard = g .heard; proposals = g .proposals; priorities = g .priorities })
 
 -- every call, and every list of calls
-pub step-good : (S : Seat) (p : History) (c : Call) → S .own < S .terms .n → Typed c → GoodHistory S p → GoodHistory S (step S p c)
+step-good : (S : Seat) (p : History) (c : Call) → S .own < S .terms .n → Typed c → GoodHistory S p → GoodHistory S (step S p c)
 unfolding step
 step-good S p c lo t g = go (refusal S p c)
   where

@@ -30,7 +30,7 @@ module _ (S : Seat) (p : History) where
   used-lock u = refl
 
   -- and grade 2
-  pub used-decision : (u : ℕ) → usedAt S p (suc u) deciding
+  used-decision : (u : ℕ) → usedAt S p (suc u) deciding
       ≡ gradeWith (S .terms .n) (weightOf (S .terms)) (heardLogs (p .heard) u) (snapshotTook p one u)
   unfolding usedAt gradeAt
   used-decision u = refl

@@ -28,7 +28,7 @@ use Rattle.bench.proofs.Sample.{alone}
 -- ---- bench 3 of 5, gathering at a beat of view 259, which starts at 1,036
 
 -- it heard in view 258 one LOG, of bench 0, with the log L; both snapshots are of that sender
-abbrev pub ready : ℕ → Log → State
+abbrev ready : ℕ → Log → State
 ready beat L = record {
   bench =
       record {

@@ -117,7 +117,7 @@ longer = block 5 3 ∷ block 6 0 ∷ []
 abbrev pub sample : List Event
 sample = offering 0 5 1 9 ∷ at 1 ∷ at 2 ∷ at 3 ∷ at 4 ∷ at 5 ∷ at 6 ∷ []
 
-abbrev pub sampleLines : List Line
+abbrev sampleLines : List Line
 sampleLines =
     line (some (proposal 0 five 9)) []
     ∷ line (some (log 0 five)) []
@@ -129,10 +129,10 @@ sampleLines =
     ∷ []
 
 -- A block in each of two views, with counts other than 1: the second view's extends the first's.
-abbrev pub twoViews : List Event
+abbrev twoViews : List Event
 twoViews = offering 0 5 3 9 ∷ at 1 ∷ at 2 ∷ at 3 ∷ offering 4 6 0 7 ∷ at 5 ∷ at 6 ∷ at 7 ∷ at 8 ∷ at 9 ∷ at 10 ∷ []
 
-abbrev pub twoViewsLines : List Line
+abbrev twoViewsLines : List Line
 twoViewsLines =
     line (some (proposal 0 short 9)) []
     ∷ line (some (log 0 short)) []
@@ -151,20 +151,20 @@ twoViewsLines =
 abbrev pub asleep : List Event
 asleep = offering 0 5 1 9 ∷ at 1 ∷ at 2 ∷ at 4 ∷ at 5 ∷ at 6 ∷ []
 
-abbrev pub asleepLines : List Line
+abbrev asleepLines : List Line
 asleepLines = line (some (proposal 0 five 9)) [] ∷ line (some (log 0 five)) [] ∷ line none [] ∷ line none [] ∷ line none [] ∷ line none five ∷ []
 
 -- Asleep at 2, awake at 3: a lock and so a LOG at 5, and no decision at 6.
 abbrev pub late : List Event
 late = offering 0 5 1 9 ∷ at 1 ∷ at 3 ∷ at 4 ∷ at 5 ∷ at 6 ∷ []
 
-abbrev pub lateLines : List Line
+abbrev lateLines : List Line
 lateLines =
     line (some (proposal 0 five 9)) [] ∷ line (some (log 0 five)) [] ∷ line none [] ∷ line none [] ∷ line (some (log 1 five)) [] ∷ line none [] ∷ []
 
 -- Decisions in conflict, at 10 by name and at 22 by count: what stands stays, and the mark is set, for good: also where a later decision extends
 -- what stands (14), equals it (18) or is a prefix of it (26). (Only LOGs under its own number can bring a bench alone to this.)
-abbrev pub parting : List Event
+abbrev parting : List Event
 parting =
     hearing 2 (log 0 five)
     ∷ hearing 6 (log 1 seven)
@@ -176,7 +176,7 @@ parting =
     ∷ at 26
     ∷ []
 
-abbrev pub partingLines : List Line
+abbrev partingLines : List Line
 partingLines =
     line none []
     ∷ line none five
@@ -188,14 +188,14 @@ partingLines =
 abbrev pub keeping : List Event
 keeping = hearing 2 (log 0 fiveSix) ∷ hearing 6 (log 1 five) ∷ hearing 10 (log 2 []) ∷ hearing 14 (log 3 fiveSix) ∷ at 18 ∷ []
 
-abbrev pub keepingLines : List Line
+abbrev keepingLines : List Line
 keepingLines = line none [] ∷ replicate 4 (line none fiveSix)
 
 -- the count alone is another
-abbrev pub countParting : List Event
+abbrev countParting : List Event
 countParting = hearing 2 (log 0 five) ∷ hearing 6 (log 1 short) ∷ at 10 ∷ []
 
-abbrev pub countPartingLines : List Line
+abbrev countPartingLines : List Line
 countPartingLines = line none [] ∷ line none five ∷ partedLine none five ∷ []
 
 -- A LOG under its own number, heard before its own is made: that is made all the same, and makes the bench an equivocator to itself. So there is no
@@ -203,14 +203,14 @@ countPartingLines = line none [] ∷ line none five ∷ partedLine none five ∷
 abbrev pub forged : List Event
 forged = offering 0 5 1 9 ∷ hearing 1 (log 0 seven) ∷ at 2 ∷ at 3 ∷ offering 4 6 1 9 ∷ at 5 ∷ at 6 ∷ []
 
-abbrev pub forgedLines : List Line
+abbrev forgedLines : List Line
 forgedLines = line (some (proposal 0 five 9)) [] ∷ line (some (log 0 five)) [] ∷ replicate 5 (line none [])
 
 -- Past the last view nothing is proposed or voted, though there is a candidate, a block and a lock; the last decision stands.
 abbrev pub ending : List Event
 ending = hearing 4000001 (log 1000000 five) ∷ at 4000002 ∷ at 4000003 ∷ offering 4000004 6 1 9 ∷ at 4000005 ∷ at 4000006 ∷ []
 
-abbrev pub endingLines : List Line
+abbrev endingLines : List Line
 endingLines = replicate 5 (line none []) ++ (line none five ∷ [])
 
 pub rolls-hold : map roll (sample ∷ twoViews ∷ asleep ∷ late ∷ parting ∷ keeping ∷ countParting ∷ forged ∷ ending ∷ [])

@@ -29,7 +29,7 @@ use Rattle.bench.proofs.Refinement.{Holds, Refines}
 use Rattle.bench.proofs.Filling.{logs-low}
 
 -- the limits of an agreement, as its grades want them
-pub within-valid : (n : ℕ) (g : Agreement) → n ≤ mostSenders → ValidAgreement n g → Within n g
+within-valid : (n : ℕ) (g : Agreement) → n ≤ mostSenders → ValidAgreement n g → Within n g
 within-valid n g few f = record {
   few = few;
   voters = λ i h l. f .sender i .no-voter h;

@@ -22,10 +22,10 @@ use Rattle.bench.proofs.ValidProposals.{empty-proposals-valid}
 
 -- ---- what a slot holds of view v
 
-pub own-view : (g : Agreement) (v : ℕ) → g .marks .view ≡ v → ofView g v ≡ g
+own-view : (g : Agreement) (v : ℕ) → g .marks .view ≡ v → ofView g v ≡ g
 own-view g v e = rw (eq-eqb (g .marks .view) v e)
 
-pub other-view : (g : Agreement) (v : ℕ) → (g .marks .view ≡ v → ⊥) → ofView g v ≡ emptyAgreement v
+other-view : (g : Agreement) (v : ℕ) → (g .marks .view ≡ v → ⊥) → ofView g v ≡ emptyAgreement v
 other-view g v e = rw (ne-eqb (g .marks .view) v e)
 
 -- with nothing filed it does not matter which view the slot says
@@ -113,7 +113,7 @@ pub same-agreement : (b c : Bench) (v : ℕ) → c .even ≡ b .even → c .odd 
 unfolding agreementOf
 same-agreement b c v e o = rw (e, o)
 
-pub same-proposals : (b c : Bench) (v : ℕ) → c .proposals ≡ b .proposals → proposalsOf c v ≡ proposalsOf b v
+same-proposals : (b c : Bench) (v : ℕ) → c .proposals ≡ b .proposals → proposalsOf c v ≡ proposalsOf b v
 unfolding proposalsOf
 same-proposals b c v e = rw e
 

@@ -4,7 +4,7 @@ use native.Mathlib.Omega.{arith}
 use mathlib.Core.Bool.{Bool, true, false}
 use mathlib.Core.List.{List}
 use mathlib.Core.Path.{_≡_, sym, _∙_}
-use borrow.Author.Tests.{ltb-false, le-ltb}
+use borrow.Author.Tests.{ltb-false}
 use lib.Dec.{ltb}
 use lib.ListN.{length}
 use Rattle.message.specs.Limits.{mostBlocks}
@@ -57,16 +57,12 @@ pub is-usable : (b : Bench) (names counts : List ℕ) (r q : Bool) → r ≡ bey
     → Usable (coreWith b names counts)
 is-usable b names counts r q e t f u = record { limits = sym e ∙ t; lists = sym f ∙ u }
 
-pub act-asks : (b : Bench) (names counts out : List ℕ) (r q : Bool) → r ≡ beyond b → r ≡ false → q ≡ tooFewPlaces names counts → q ≡ false
-    → mostBytes ≤ length out → Tested (coreWith b names counts) out
-act-asks b names counts out r q e t f u l = record { usable = is-usable b names counts r q e t f u; room = le-ltb (length out) mostBytes l }
-
 pub long-out : {s : Core} {out : List ℕ} → Tested s out → mostBytes ≤ length out
 long-out {s} {out} t = ltb-false (length out) mostBytes (t .room)
 
 -- ending the gathering does not matter to it
 module _ (b : Bench) (names counts out : List ℕ) (t : Tested (coreWith b names counts) out) where
-  pub usable-over : Usable (coreWith (withGatheringOver b) names counts)
+  usable-over : Usable (coreWith (withGatheringOver b) names counts)
   unfolding beyond
   usable-over = record { limits = t .usable .limits; lists = t .usable .lists }
 

@@ -101,7 +101,7 @@ pub no-place : (p : ℕ → Bool) → anyPlace p ≡ false → (i : ℕ) → i <
 unfolding anyPlace
 no-place p e i h = let z = ltb-false 0 (count mostSenders p) e in weigh-none mostSenders p i (omega arith) h
 
-pub none-placed : (p : ℕ → Bool) → ((i : ℕ) → i < mostSenders → p i ≡ false) → anyPlace p ≡ false
+none-placed : (p : ℕ → Bool) → ((i : ℕ) → i < mostSenders → p i ≡ false) → anyPlace p ≡ false
 unfolding anyPlace
 none-placed p h =
     either (ltb 0 (count mostSenders p))
@@ -124,7 +124,7 @@ module _ (n i : ℕ) where
   unheard : (b s : Bool) → (b ≡ true → s ≡ true) → (b && not s) ≡ false
   unheard b s h = off-and b (not s) (λ t. not-off s (h t))
 
-  pub valid-sender : (g : Agreement) → badSender n g i ≡ false
+  valid-sender : (g : Agreement) → badSender n g i ≡ false
       → ValidSender n i (getD (g .lengths) i 0) (isVoter g i) (isEquivocator g i) (member (g .marks .one .senders) i) (member (g .marks .two .senders) i)
   valid-sender g e =
       let a = or-false (tooLong (g .lengths) i) _ e in
@@ -145,7 +145,7 @@ module _ (n i : ℕ) where
         two-heard = heard (member (g .marks .two .senders) i) (isSender g i) (k .1);
       }
 
-  pub not-bad : (g : Agreement)
+  not-bad : (g : Agreement)
       → ValidSender n i (getD (g .lengths) i 0) (isVoter g i) (isEquivocator g i) (member (g .marks .one .senders) i) (member (g .marks .two .senders) i)
       → badSender n g i ≡ false
   not-bad g f =
@@ -181,7 +181,7 @@ pub unfiled-valid : (n i blocks : ℕ) (filed aside : Bool) → blocks ≡ 0 →
 unfiled-valid n i blocks filed aside k p q = record { short = omega arith; not-filed = λ h. p; not-aside = λ h. q }
 
 module _ (n : ℕ) (g : Agreement) where
-  pub valid-agreement : beyondAgreement n g ≡ false → SizedAgreement g → ValidAgreement n g
+  valid-agreement : beyondAgreement n g ≡ false → SizedAgreement g → ValidAgreement n g
   unfolding beyondAgreement
   valid-agreement e z =
       let a = or-false (ltb lastView (g .marks .view)) (anyPlace (badSender n g)) e in
@@ -196,13 +196,13 @@ module _ (n : ℕ) (g : Agreement) where
         sized = z;
       }
 
-  pub agreement-not-beyond : ValidAgreement n g → beyondAgreement n g ≡ false
+  agreement-not-beyond : ValidAgreement n g → beyondAgreement n g ≡ false
   unfolding beyondAgreement
   agreement-not-beyond f =
       off-or (ltb lastView (g .marks .view)) _ (le-ltb lastView (g .marks .view) (f .view)) (none-placed (badSender n g) (λ i h. not-bad n i g (f .sender i)))
 
 module _ (n : ℕ) (g : Proposals) where
-  pub valid-proposer : (i : ℕ) → badProposer n g i ≡ false → ValidProposer n i (getD (g .lengths) i 0) (member (g .marks .filed) i) (member (g .marks .aside) i)
+  valid-proposer : (i : ℕ) → badProposer n g i ≡ false → ValidProposer n i (getD (g .lengths) i 0) (member (g .marks .filed) i) (member (g .marks .aside) i)
   valid-proposer i e =
       let a = or-false (tooLong (g .lengths) i) _ e in
       let b = or-false (namesBeyond n (g .marks .filed) i) (namesBeyond n (g .marks .aside) i) (a .1) in
@@ -217,7 +217,7 @@ module _ (n : ℕ) (g : Proposals) where
       off-or (tooLong (g .lengths) i) _ (le-ltb mostBlocks (getD (g .lengths) i 0) (f .short))
       (off-or (namesBeyond n (g .marks .filed) i) _ (named n i (member (g .marks .filed) i) (f .not-filed)) (named n i (member (g .marks .aside) i) (f .not-aside)))
 
-  pub valid-proposals : beyondProposals n g ≡ false → SizedProposals g → ValidProposals n g
+  valid-proposals : beyondProposals n g ≡ false → SizedProposals g → ValidProposals n g
   unfolding beyondProposals
   valid-proposals e z =
       let a = or-false (ltb lastView (g .marks .view)) (anyPlace (badProposer n g)) e in
@@ -230,7 +230,7 @@ module _ (n : ℕ) (g : Proposals) where
         sized = z;
       }
 
-  pub proposals-not-beyond : ValidProposals n g → beyondProposals n g ≡ false
+  proposals-not-beyond : ValidProposals n g → beyondProposals n g ≡ false
   unfolding beyondProposals
   proposals-not-beyond f =
       off-or (ltb lastView (g .marks .view)) _ (le-ltb lastView (g .marks .view) (f .view)) (none-placed (badProposer n g) (λ i h. proposer-not-bad i (f .proposer i)))
@@ -245,7 +245,7 @@ in-range n own e =
     let c = eqb-false n 0 (a .0) in
     (omega arith, ltb-false mostSenders n (b .0), leb-false n own (b .1))
 
-pub of-range : (n own : ℕ) → 1 ≤ n → n ≤ mostSenders → own < n → outOfRange n own ≡ false
+of-range : (n own : ℕ) → 1 ≤ n → n ≤ mostSenders → own < n → outOfRange n own ≡ false
 of-range n own a b c =
     off-or (eqb n 0) _ (ne-eqb n 0 (λ e. omega arith)) (off-or (ltb mostSenders n) _ (le-ltb mostSenders n b) (lt-leb n own c))
 

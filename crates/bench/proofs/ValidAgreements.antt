@@ -102,7 +102,7 @@ module _ (n : ℕ) (g : Agreement) (f : ValidAgreement n g) where
       first-else : (j : ℕ) → (j ≡ i → ⊥) → FirstAt j
       first-else j d = rw (getD-set-other (g .lengths) i j k 0 d, adding-other (g .marks .voters) i j d) (f .sender j)
 
-      pub first-valid : ValidAgreement n (withFirst g i k)
+      first-valid : ValidAgreement n (withFirst g i k)
       first-valid = record {
         view = f .view;
         sender = λ j. at-place FirstAt i j first-here (first-else j);
@@ -132,7 +132,7 @@ module _ (n : ℕ) (g : Agreement) (f : ValidAgreement n g) where
     second-else : (j : ℕ) → (j ≡ i → ⊥) → SecondAt j
     second-else j d = rw (removing-other (g .marks .voters) i j d, adding-other (g .marks .equivocators) i j d) (f .sender j)
 
-    pub second-valid : ValidAgreement n (withSecond g i)
+    second-valid : ValidAgreement n (withSecond g i)
     second-valid = record {
       view = f .view;
       sender = λ j. at-place SecondAt i j second-here (second-else j);

@@ -46,7 +46,7 @@ module _ (n : ℕ) (g : Proposals) (f : ValidProposals n g) where
       proposal-else : (j : ℕ) → (j ≡ i → ⊥) → ProposalAt j
       proposal-else j d = rw (getD-set-other (g .lengths) i j k 0 d, adding-other (g .marks .filed) i j d) (f .proposer j)
 
-      pub proposal-valid : ValidProposals n (withProposal g i k priority)
+      proposal-valid : ValidProposals n (withProposal g i k priority)
       proposal-valid = record {
         view = f .view;
         proposer = λ j. at-place ProposalAt i j proposal-here (proposal-else j);
@@ -70,7 +70,7 @@ module _ (n : ℕ) (g : Proposals) (f : ValidProposals n g) where
     aside-else : (j : ℕ) → (j ≡ i → ⊥) → AsideAt j
     aside-else j d = rw (adding-other (g .marks .aside) i j d) (f .proposer j)
 
-    pub aside-valid : ValidProposals n (withAside g i)
+    aside-valid : ValidProposals n (withAside g i)
     aside-valid = record {
       view = f .view;
       proposer = λ j. at-place AsideAt i j aside-here (aside-else j);

@@ -43,7 +43,7 @@ evenHead h m = record { next = h .next; n = h .n; own = h .own; decided = h .dec
 abbrev pub oddHead : Head → Marks → Head
 oddHead h m = record { next = h .next; n = h .n; own = h .own; decided = h .decided; parted = h .parted; gathering = h .gathering; even = h .even; odd = m; shown = h .shown }
 
-abbrev pub shownHead : Head → Shown → Head
+abbrev shownHead : Head → Shown → Head
 shownHead h m = record { next = h .next; n = h .n; own = h .own; decided = h .decided; parted = h .parted; gathering = h .gathering; even = h .even; odd = h .odd; shown = m }
 
 -- ---- by the parity of the view: what is read of the record, and what is stored

@@ -47,7 +47,7 @@ module _ (n a b : ℕ) where
       any-both (namesBeyond n a) (namesBeyond n b) (namesBeyond n (bitOr a b))
       (λ i. ap (λ (t : Bool). leb n i && t) (member-or a b i) ∙ meets-or (leb n i) (member a i) (member b i))
 
-  pub reaches-both : (r : Bool) → r ≡ ltb 0 (count mostSenders (λ (i : ℕ). leb n i && member (bitOr a b) i))
+  reaches-both : (r : Bool) → r ≡ ltb 0 (count mostSenders (λ (i : ℕ). leb n i && member (bitOr a b) i))
       → r ≡ (anyPlace (namesBeyond n a) || anyPlace (namesBeyond n b))
   reaches-both r e = e ∙ sym (any-place (namesBeyond n (bitOr a b))) ∙ beyond-both
 

@@ -54,7 +54,7 @@ module _ (S : Seat) where
       let r = receive-ok S p bytes ok in
       ap (λ (q : History). q .last) (accepted-receive S p bytes (r .message) (r .read)) ∙ file-last p (r .message)
 
-  pub act-last : (p : History) (x : Block) (r : ℕ) (o : List ℕ) → accepted S p (act x r o) .last ≡ p .last
+  act-last : (p : History) (x : Block) (r : ℕ) (o : List ℕ) → accepted S p (act x r o) .last ≡ p .last
   act-last p x r o =
       let m = madeBy S p x r in
       ap (λ (q : History). q .last) (accepted-act S p x r o) ∙ made-last (closed p m (decidedBy S p)) m

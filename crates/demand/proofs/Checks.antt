@@ -34,12 +34,12 @@ pub record SentLog : Type 0 where
   pub beat : ℕ
   pub content : Content
 
-abbrev pub isNew : Word → Bool
+abbrev isNew : Word → Bool
 isNew first = true
 isNew second = true
 isNew known = false
 
-abbrev pub onlyIf : Bool → SentLog → List SentLog
+abbrev onlyIf : Bool → SentLog → List SentLog
 onlyIf true l = l ∷ []
 onlyIf false l = []
 
@@ -54,7 +54,7 @@ sentMade p none = []
 sentMade p (some (logMessage m)) = record { beat = beatNow p; content = m } ∷ []
 sentMade p (some (proposalMessage m priority)) = []
 
-abbrev pub unlessRefused : Option ℕ → List SentLog → List SentLog
+abbrev unlessRefused : Option ℕ → List SentLog → List SentLog
 unlessRefused none l = l
 unlessRefused (some k) l = []
 
@@ -124,7 +124,7 @@ among : (m : Content) (l : List Content) → any (sameContent m) l ≡ true → 
 among m l e = let z = any-use (sameContent m) l e in Memᴰ·cast (sameContent-eq m (z .0) (z .2)) (z .1)
 
 -- a LOG sent is heard by each act of a later beat within its window, but by its sender's own
-abbrev pub arrivedBy : ℕ → SentLog → ActRecord → Bool
+abbrev arrivedBy : ℕ → SentLog → ActRecord → Bool
 arrivedBy q l d =
     implies (ltb (l .beat) (d .beat) && (leb (d .beat) (closeBeat (l .content .view)) && not (eqb (l .content .sender) q)))
     (any (sameContent (l .content)) (d .heard))

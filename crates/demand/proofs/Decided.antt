@@ -59,7 +59,7 @@ mem-decided (x ∷ xs) L i = go (x .decided) refl i (mem-decided xs L)
     ]
 
 module _ (S : Seat) (cs : List Call) where
-  pub decides-mem : (L : Log) → Decides S cs L → Mem L (decidedIn (after S cs .actions))
+  decides-mem : (L : Log) → Decides S cs L → Mem L (decidedIn (after S cs .actions))
   decides-mem L d =
       let t = d .acts in
       let c = act (t .block) (t .priority) (t .out) in

@@ -27,12 +27,12 @@ pub record Parts (W : Volume) : Type 0 where
   pub typed : (i : ℕ) → Keeps W i → AllTyped (W .calls i)
   pub one : ℕ
   pub other : ℕ
-  pub one-keeps : Keeps W one
-  pub other-keeps : Keeps W other
-  pub log-one : Log
-  pub log-other : Log
-  pub one-decides : Decides (seat W one) (W .calls one) log-one
-  pub other-decides : Decides (seat W other) (W .calls other) log-other
+  one-keeps : Keeps W one
+  other-keeps : Keeps W other
+  log-one : Log
+  log-other : Log
+  one-decides : Decides (seat W one) (W .calls one) log-one
+  other-decides : Decides (seat W other) (W .calls other) log-other
   pub conflict : Conflict log-one log-other
 
 -- so that by the theorem not all three premises hold

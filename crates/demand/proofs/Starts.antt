@@ -11,7 +11,7 @@ use Rattle.bench.proofs.HistoryLaws.{after-nil, after-snoc}
 use Rattle.demand.specs.Places.{At}
 
 -- a list of calls, built from its first call on
-pub snoc-ind : (P : List Call → Type 0) → P [] → ((pre : List Call) (c : Call) → P pre → P (pre ++ (c ∷ []))) → (cs : List Call) → P cs
+snoc-ind : (P : List Call → Type 0) → P [] → ((pre : List Call) (c : Call) → P pre → P (pre ++ (c ∷ []))) → (cs : List Call) → P cs
 snoc-ind P z s cs = go [] z cs
   where
     go : (pre : List Call) → P pre → (rest : List Call) → P (pre ++ rest)

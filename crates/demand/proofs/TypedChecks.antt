@@ -13,7 +13,7 @@ use Rattle.demand.specs.Premises.{Volume, Keeps}
 use Rattle.demand.proofs.ListTests.{all, allBelow, below-use, implies, implies-use}
 
 -- bytes, as many as a list may have
-abbrev pub bytesFit : List ℕ → Bool
+abbrev bytesFit : List ℕ → Bool
 bytesFit s = all (λ (x : ℕ). ltb x 256) s && ltb (length s) (2 ^ 64)
 
 unfoldable pub typedb : Call → Bool

@@ -80,7 +80,7 @@ module _ (W : Volume) (C : Timetable (W .terms)) (Q : Keeping W) where
   unfoldable pub memberOf : ℕ → ℕ → Bool
   memberOf k x = awakeTo k x && Q .to x (C .close k)
 
-  abbrev pub breakerOf : ℕ → ℕ → Bool
+  abbrev breakerOf : ℕ → ℕ → Bool
   breakerOf k x = not (Q .to x (C .close k))
 
   -- the premise on the majority, for each agreement in which a rule-keeper is awake between its votes and its look

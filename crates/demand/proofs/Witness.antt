@@ -136,10 +136,10 @@ outnumbers = majority volume 3 refl
 pub keep0 : Keeps volume 0
 keep0 = (omega arith, refl)
 
-pub keep1 : Keeps volume 1
+keep1 : Keeps volume 1
 keep1 = (omega arith, refl)
 
-pub keep2 : Keeps volume 2
+keep2 : Keeps volume 2
 keep2 = (omega arith, refl)
 
 -- the logs decided

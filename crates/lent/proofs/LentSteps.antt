@@ -36,7 +36,7 @@ pub one-value : {a b : Val} → _≡_ {A = List Val} (a ∷ []) (b ∷ []) → a
 one-value e = cc
 
 -- the record's type and value, as the machine has them
-abbrev pub benchTy : Ty
+abbrev benchTy : Ty
 benchTy = lone (T.the-row .mir)
 
 abbrev pub benchVal : Bench → Val
@@ -50,11 +50,11 @@ pub record Gave (τ τ₀ : Ty) (a : Val) (h : Bench) (v : Val) : Type 0 where
   pub bench : Is T.the-row h (benchVal h ∷ [])
 
 -- a slice of elements of the type
-abbrev pub listTy : Sym → Lifetime → Mutability → Ty → Ty
+abbrev listTy : Sym → Lifetime → Mutability → Ty → Ty
 listTy ν ℓ μ τ = tyStruct ν (tcons (tyRef ℓ μ τ) (tcons (tyInt w64) tnil))
 
 -- a call's last lines: the record in the result, in local m, is stored, and its answer handed back
-abbrev pub storing : ℕ → Body
+abbrev storing : ℕ → Body
 storing m =
     seq (assign (place 1 (deref benchTy ∷ [])) (rvOpd (copy (place m (field 1 ∷ [])))))
     (seq (assign (place 0 []) (rvOpd (copy (place m (field 0 ∷ []))))) return)

@@ -106,7 +106,7 @@ module _ {A : Type 0} (refuse : ℕ → A) (x : A) where
       go (some k) e = f k e
 
   -- the causes in front are judged first, and fall away where they pass
-  pub judged-append : (xs ys : List Cause) → judgedBy (xs ++ ys) refuse x ≡ judgedBy xs refuse (judgedBy ys refuse x)
+  judged-append : (xs ys : List Cause) → judgedBy (xs ++ ys) refuse x ≡ judgedBy xs refuse (judgedBy ys refuse x)
   unfolding judgedBy firstFailure
   judged-append [] ys = refl
   judged-append (c ∷ xs) ys = either (c .test) (λ t. rw t) (λ t. rw t (judged-append xs ys))

@@ -9,9 +9,9 @@ use borrow.Author.Tests.{le-leb}
 use lib.ListN.{length, drop}
 use Rattle.message.specs.Limits.{mostBlocks, headLength, blockWidth}
 use Rattle.message.specs.Numbers.{AllBelow, put}
-use Rattle.message.specs.Logs.{Log, isPrefix, sameLog, sharedLength, namesOf, countsOf}
+use Rattle.message.specs.Logs.{Log, isPrefix, sameLog, namesOf, countsOf}
 use Rattle.message.specs.Message.{Content, Meaning, logMessage, proposalMessage, said, means, readOf, logOf, logKind, proposalKind, messageBytes, bytesOf, countIn, priorityIn, logIn, contentIn}
-use Rattle.message.specs.Store.{logAt, within, holdsLog, prefixAt, sharedAt, matchesAt, Stores, storeOf, roomFor, Writes, writeOf}
+use Rattle.message.specs.Store.{logAt, within, holdsLog, prefixAt, matchesAt, Stores, storeOf, roomFor, Writes, writeOf}
 use Rattle.message.proofs.TestLaws.{either}
 use Rattle.message.proofs.PartLaws.{put-front, length-put}
 use Rattle.message.proofs.Acceptance.{accepted, form}
@@ -23,11 +23,6 @@ pub prefix-inside : (names counts : List ℕ) (a x b y : ℕ) → within names c
     → prefixAt names counts a x b y ≡ isPrefix (logAt names counts a x) (logAt names counts b y)
 unfolding prefixAt
 prefix-inside names counts a x b y h g = rw (h, g)
-
-pub shared-inside : (names counts : List ℕ) (a x b y : ℕ) → within names counts a x ≡ true → within names counts b y ≡ true
-    → sharedAt names counts a x b y ≡ sharedLength (logAt names counts a x) (logAt names counts b y)
-unfolding sharedAt
-shared-inside names counts a x b y h g = rw (h, g)
 
 pub matches-inside : (s names counts : List ℕ) (a x : ℕ) → holdsLog s ≡ true → within names counts a x ≡ true
     → matchesAt s names counts a x ≡ sameLog (logIn s) (logAt names counts a x)

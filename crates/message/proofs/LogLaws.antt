@@ -32,7 +32,7 @@ prefix-length empty = omega arith
 prefix-length (more h) = omega (arith, prefix-length h)
 
 -- a prefix, by the blocks that follow it
-pub prefix-append : (P t : Log) → Prefix P (P ++ t)
+prefix-append : (P t : Log) → Prefix P (P ++ t)
 prefix-append [] t = empty
 prefix-append (b ∷ P) t = more (prefix-append P t)
 

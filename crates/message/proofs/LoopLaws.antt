@@ -69,7 +69,7 @@ put-no-byte l p left x h = let e : left ≡ 0 = omega arith in ap (λ (k : ℕ).
 
 -- ---- looking for a zero
 
-pub numbers-step : (w : ℕ) (s : List ℕ) (p left : ℕ) → 0 < left → numbersAt w s p left ≡ numberAt w s p ∷ numbersAt w s (p + w) (left - 1)
+numbers-step : (w : ℕ) (s : List ℕ) (p left : ℕ) → 0 < left → numbersAt w s p left ≡ numberAt w s p ∷ numbersAt w s (p + w) (left - 1)
 unfolding numbersAt
 numbers-step w s p left h = let e : left ≡ suc (left - 1) = omega arith in ap (numbersAt w s p) e
 

@@ -42,7 +42,7 @@ length-numbers w s a zero = refl
 length-numbers w s a (suc k) = ap suc (length-numbers w s (a + w) k)
 
 -- ---- a number, and numbers, depend on their bytes alone
-pub number-part : (w : ℕ) (l m : List ℕ) (a b : ℕ) → part l a w ≡ part m b w → numberAt w l a ≡ numberAt w m b
+number-part : (w : ℕ) (l m : List ℕ) (a b : ℕ) → part l a w ≡ part m b w → numberAt w l a ≡ numberAt w m b
 unfolding numberAt part
 number-part zero l m a b e = refl
 number-part (suc w) l m a b e =
@@ -54,7 +54,7 @@ number-part (suc w) l m a b e =
 -- ---- written and read back
 
 -- at the front of a list
-pub number-bytes : (w x : ℕ) (r : List ℕ) → x < 256 ^ w → numberAt w (bytesFor w x ++ r) 0 ≡ x
+number-bytes : (w x : ℕ) (r : List ℕ) → x < 256 ^ w → numberAt w (bytesFor w x ++ r) 0 ≡ x
 unfolding numberAt bytesFor
 number-bytes zero x r h = omega arith
 number-bytes (suc w) x r h =
@@ -64,7 +64,7 @@ number-bytes (suc w) x r h =
     let f : numberAt w l (0 + 1) ≡ numberAt w (bytesFor w (x / 256) ++ r) 0 = number-part w l (bytesFor w (x / 256) ++ r) (0 + 1) 0 (part-drop l 1 0 w) in
     rw (f, e) (omega arith)
 
-pub numbers-part : (w : ℕ) (l m : List ℕ) (a b k : ℕ) → part l a (w * k) ≡ part m b (w * k) → numbersAt w l a k ≡ numbersAt w m b k
+numbers-part : (w : ℕ) (l m : List ℕ) (a b k : ℕ) → part l a (w * k) ≡ part m b (w * k) → numbersAt w l a k ≡ numbersAt w m b k
 unfolding numbersAt
 numbers-part w l m a b zero e = refl
 numbers-part w l m a b (suc k) e =
@@ -79,13 +79,13 @@ numbers-part w l m a b (suc k) e =
     λ i. x i ∷ y i
 
 -- numbers in what follows the first m bytes
-pub number-drop : (w : ℕ) (l : List ℕ) (m a : ℕ) → numberAt w l (m + a) ≡ numberAt w (drop m l) a
+number-drop : (w : ℕ) (l : List ℕ) (m a : ℕ) → numberAt w l (m + a) ≡ numberAt w (drop m l) a
 number-drop w l m a = number-part w l (drop m l) (m + a) a (part-drop l m a w)
 
-pub numbers-drop : (w : ℕ) (l : List ℕ) (m a k : ℕ) → numbersAt w l (m + a) k ≡ numbersAt w (drop m l) a k
+numbers-drop : (w : ℕ) (l : List ℕ) (m a k : ℕ) → numbersAt w l (m + a) k ≡ numbersAt w (drop m l) a k
 numbers-drop w l m a k = numbers-part w l (drop m l) (m + a) a k (part-drop l m a (w * k))
 
-pub numbers-bytes : (w : ℕ) (xs r : List ℕ) → AllBelow (256 ^ w) xs → numbersAt w (bytesForEach w xs ++ r) 0 (length xs) ≡ xs
+numbers-bytes : (w : ℕ) (xs r : List ℕ) → AllBelow (256 ^ w) xs → numbersAt w (bytesForEach w xs ++ r) 0 (length xs) ≡ xs
 unfolding numbersAt bytesForEach
 numbers-bytes w [] r h = refl
 numbers-bytes w (x ∷ xs) r h =

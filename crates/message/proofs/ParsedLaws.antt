@@ -1,15 +1,14 @@
 -- The reader's answer and what it says of the bytes: one answer for each reading, and what a caller may take from it. Assumes nothing.
-use Prim.Native.Nat.{ℕ, _+_, _*_, _≤_, _<_}
+use Prim.Native.Nat.{ℕ}
 use native.Mathlib.Omega.{arith}
-use mathlib.Core.Path.{_≡_, refl, sym, ap, subst, _∙_}
+use mathlib.Core.Path.{_≡_, sym, ap, _∙_}
 use mathlib.Core.List.{List}
 use lib.ListN.{length}
-use Rattle.message.specs.Limits.{mostBlocks, lastView, headLength, blockWidth}
-use Rattle.message.specs.Message.{Content, said, Meaning, logMessage, proposalMessage, countIn, senderIn, viewIn, refused, means, readOf, contentOf, parsedOf}
+use Rattle.message.specs.Message.{Content, logMessage, proposalMessage, refused, means, readOf, contentOf, parsedOf}
 use Rattle.message.specs.declared.Head.{Head}
 use Rattle.message.specs.declared.Message.{Message}
 use Rattle.message.specs.declared.Message.the-variants as answers
-use Rattle.message.proofs.Acceptance.{form, accepted, said-in, length-blocks}
+use Rattle.message.proofs.Acceptance.{length-blocks}
 
 -- the head is known by the content that it says: the blocks are as many as the log's
 content-head : (s : List ℕ) (h j : Head) → contentOf s h ≡ contentOf s j → h ≡ j
@@ -18,10 +17,6 @@ content-head s h j e =
     let w = ap (λ (x : Content). x .sender) e in
     let b : h .blocks ≡ j .blocks = sym (length-blocks s (h .blocks)) ∙ ap (λ (x : Content). length (x .log)) e ∙ length-blocks s (j .blocks) in
     λ i. record { view = v i; sender = w i; blocks = b i }
-
--- the head in the bytes
-abbrev headIn : List ℕ → Head
-headIn s = record { view = viewIn s; sender = senderIn s; blocks = countIn s }
 
 -- no two answers say the same of the bytes
 pub parsedOf-injective : (s : List ℕ) (a b : Message) → parsedOf s a ≡ parsedOf s b → a ≡ b
@@ -54,26 +49,3 @@ read-as-proposal n s r h priority e c = sym e ∙ ap (parsedOf s) c
 pub read-as-refused : (n : ℕ) (s : List ℕ) (r : Message) (number : ℕ) → parsedOf s r ≡ readOf n s → r ≡ answers.Refused number → readOf n s ≡ refused number
 unfolding parsedOf
 read-as-refused n s r number e c = sym e ∙ ap (parsedOf s) c
-
--- ---- the head of an accepted message
-
-pub record HeadWithin (n : ℕ) (s : List ℕ) (h : Head) : Type 0 where
-  pub few : h .blocks ≤ mostBlocks
-  pub sized : length s ≡ headLength + blockWidth * h .blocks
-  pub exact : h .blocks ≡ countIn s
-  pub below : h .sender < n
-  pub early : h .view ≤ lastView
-
--- for either kind: the content says which head it is
-within-of : (n : ℕ) (s : List ℕ) (h : Head) (m : Meaning) → readOf n s ≡ means m → said m ≡ contentOf s h → HeadWithin n s h
-within-of n s h m e c =
-    let a = accepted n s m e in
-    let f = form n s (a .0) in
-    let q : headIn s ≡ h = content-head s (headIn s) h (sym (said-in s) ∙ ap said (a .1) ∙ c) in
-    subst (HeadWithin n s) q (record { few = f .few; sized = f .sized; exact = refl; below = f .sender; early = f .view })
-
-pub head-within : (n : ℕ) (s : List ℕ) (r : Message) (h : Head) → parsedOf s r ≡ readOf n s → r ≡ answers.Log h → HeadWithin n s h
-head-within n s r h e c = within-of n s h (logMessage (contentOf s h)) (read-as-log n s r h e c) refl
-
-pub head-within-proposal : (n : ℕ) (s : List ℕ) (r : Message) (h : Head) (priority : ℕ) → parsedOf s r ≡ readOf n s → r ≡ answers.Proposal h priority → HeadWithin n s h
-head-within-proposal n s r h priority e c = within-of n s h (proposalMessage (contentOf s h) priority) (read-as-proposal n s r h priority e c) refl

@@ -25,7 +25,7 @@ unfolding part
 length-part l a zero = refl
 length-part l a (suc k) = ap suc (length-part l (a + 1) k)
 
-pub getD-part : (l : List ℕ) (a k i : ℕ) → i < k → getD (part l a k) i 0 ≡ getD l (a + i) 0
+getD-part : (l : List ℕ) (a k i : ℕ) → i < k → getD (part l a k) i 0 ≡ getD l (a + i) 0
 unfolding part
 getD-part l a zero i h = absurd (omega arith)
 getD-part l a (suc k) zero h = ap (λ (j : ℕ). getD l j 0) (omega arith)
@@ -111,7 +111,7 @@ put-above l a [] j h = refl
 put-above l a (x ∷ xs) j h = put-above (set l a x) (a + 1) xs j (omega arith) ∙ getD-set-other l a j x 0 (λ e. omega arith)
 
 -- what was written is there
-pub put-in : (l : List ℕ) (a : ℕ) (xs : List ℕ) (j : ℕ) → j < length xs → a + length xs ≤ length l → getD (put l a xs) (a + j) 0 ≡ getD xs j 0
+put-in : (l : List ℕ) (a : ℕ) (xs : List ℕ) (j : ℕ) → j < length xs → a + length xs ≤ length l → getD (put l a xs) (a + j) 0 ≡ getD xs j 0
 unfolding put
 put-in l a [] j h r = absurd (omega arith)
 put-in l a (x ∷ xs) zero h r =
@@ -152,7 +152,7 @@ put-front l xs h =
 
 -- ---- numbers below a bound
 
-pub set-below : (B : ℕ) (l : List ℕ) (a x : ℕ) → x < B → AllBelow B l → AllBelow B (set l a x)
+set-below : (B : ℕ) (l : List ℕ) (a x : ℕ) → x < B → AllBelow B l → AllBelow B (set l a x)
 set-below B l a x hx h i =
     either (eqb i a)
     (λ e. let q : i ≡ a = eqb-true i a e in

@@ -13,9 +13,6 @@ or-false false b e = (refl, e)
 
 -- a test, and the rest of it: r is what the code found for the first part
 module _ (z r t u : Bool) (e : z ≡ t && u) (f : r ≡ t) where
-  pub and-on : r ≡ true → z ≡ u
-  and-on g = e ∙ rw (← f, g)
-
   pub and-off : r ≡ false → false ≡ z
   and-off g = sym (e ∙ rw (← f, g))
 

@@ -46,7 +46,7 @@ module _ (m : Content) (kind priority : ℕ) (r : List ℕ) where
       ∙ ap (drop (8 * k)) from-names
       ∙ drop-at (bytesForEach nameWidth (namesOf (m .log))) _ (8 * k) (length-bytes-each 8 (namesOf (m .log)) ∙ ap (λ (j : ℕ). 8 * j) (length-names (m .log)))
 
-  pub count-front : countIn (messageBytes m kind priority ++ r) ≡ length (m .log)
+  count-front : countIn (messageBytes m kind priority ++ r) ≡ length (m .log)
   unfolding messageBytes
   count-front = refl
 
@@ -54,11 +54,11 @@ module _ (m : Content) (kind priority : ℕ) (r : List ℕ) where
   unfolding messageBytes
   sender-front = refl
 
-  pub kind-front : kindIn (messageBytes m kind priority ++ r) ≡ kind
+  kind-front : kindIn (messageBytes m kind priority ++ r) ≡ kind
   unfolding messageBytes
   kind-front = refl
 
-  pub three-front : byteThree (messageBytes m kind priority ++ r) ≡ 0
+  three-front : byteThree (messageBytes m kind priority ++ r) ≡ 0
   unfolding messageBytes
   three-front = refl
 

@@ -20,7 +20,7 @@ unfolding saidAfter
 said-snoc x d [] = refl
 said-snoc x d (e ∷ ds) = said-snoc (x * 10 + (e - 48)) d ds
 
-pub digits-say : (m x : ℕ) → x < 10 ^ m → saidAfter 0 (digits m x) ≡ x
+digits-say : (m x : ℕ) → x < 10 ^ m → saidAfter 0 (digits m x) ≡ x
 unfolding digits saidAfter
 digits-say zero x h = omega arith
 digits-say (suc m) x h =

@@ -78,18 +78,18 @@ unfolding offerAt
 offer-is s a n p c e f g = rw (e, f, g)
 
 module _ (s : List ℕ) (i a : ℕ) where
-  pub call-begin : (beat : ℕ) → kindAt s i ≡ beginKind → beat ≡ numberIn 4 s a → callAt s i a ≡ begin beat
+  call-begin : (beat : ℕ) → kindAt s i ≡ beginKind → beat ≡ numberIn 4 s a → callAt s i a ≡ begin beat
   unfolding callAt
   call-begin beat k e = rw (eq-eqb (kindAt s i) beginKind k, ← e)
 
-  pub call-receive : (k : ℕ) → (kindAt s i ≡ beginKind → ⊥) → kindAt s i ≡ receiveKind → k ≡ lengthAt s i
+  call-receive : (k : ℕ) → (kindAt s i ≡ beginKind → ⊥) → kindAt s i ≡ receiveKind → k ≡ lengthAt s i
       → callAt s i a ≡ receive (take (a + k - a) (drop a s))
   unfolding callAt
   call-receive k u v e =
       let n : a + k - a ≡ lengthAt s i = omega arith in
       rw (ne-eqb (kindAt s i) beginKind u, eq-eqb (kindAt s i) receiveKind v, n)
 
-  pub call-act : (kindAt s i ≡ beginKind → ⊥) → (kindAt s i ≡ receiveKind → ⊥) → callAt s i a ≡ act (offeredAt s a) (priorityAt s a) freshBuffer
+  call-act : (kindAt s i ≡ beginKind → ⊥) → (kindAt s i ≡ receiveKind → ⊥) → callAt s i a ≡ act (offeredAt s a) (priorityAt s a) freshBuffer
   unfolding callAt
   call-act u v = rw (ne-eqb (kindAt s i) beginKind u, ne-eqb (kindAt s i) receiveKind v)
 

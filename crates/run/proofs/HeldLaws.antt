@@ -164,7 +164,7 @@ lines-after x (c ∷ cs) ds =
     ∙ sym (append-assoc (lineOf c (stepOf x c)) (linesOf (stepOf x c .held) cs) (linesOf (heldAfter (stepOf x c .held) cs) ds))
 
 -- the calls of a roll after its first k
-pub calls-after : (s : List ℕ) (i a k m : ℕ) → callsFrom s i a (k + m) ≡ callsFrom s i a k ++ callsFrom s (i + k) (bodyFrom s i a k) m
+calls-after : (s : List ℕ) (i a k m : ℕ) → callsFrom s i a (k + m) ≡ callsFrom s i a k ++ callsFrom s (i + k) (bodyFrom s i a k) m
 unfolding callsFrom bodyFrom
 calls-after s i a zero m = let e : 0 + m ≡ m = omega arith in let f : i + 0 ≡ i = omega arith in rw (e, f)
 calls-after s i a (suc k) m =

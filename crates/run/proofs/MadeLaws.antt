@@ -108,10 +108,6 @@ pub act-makes : (s : List ℕ) (a : ℕ) (x : State) (out : List ℕ) (o : Offer
 unfolding offerAt
 act-makes s a x out o r b ns cs after n q g e = act-gives x (offeredAt s a) (priorityAt s a) out r b ns cs after n (rw q at g) e
 
--- no message is empty, so an answer of 0 says that none was made
-pub made-some : (m : Meaning) → 0 < madeLength (some m)
-made-some m = let l = length-message m in omega arith
-
 pub made-as-said : (x : State) (s : List ℕ) (k : ℕ) (out : List ℕ) → kindAt s k ≡ actKind → mostBytes ≤ length out
     → actAfter x s k out .answer .reply ≡ stepOf (heldAfter x (firstCalls s k)) (callAt s k (bodyPlace s k)) .answer .reply
 unfolding callAt

@@ -126,7 +126,7 @@ module _ (s : List ℕ) (i a e : ℕ) (h : i < e) (inv : misfits s i a (e - i) �
       let n : e - i - 1 ≡ e - (i + 1) = omega arith in
       rw (l, ← n) (or-false (wrongMark s i) (misfits s (i + 1) (a + lengthAt s i) (e - i - 1)) rest .1)
 
-  pub body-fits : (k : ℕ) → k ≡ lengthAt s i → a + k ≤ length s
+  body-fits : (k : ℕ) → k ≡ lengthAt s i → a + k ≤ length s
   body-fits k l = places-grow s (i + 1) (a + k) (e - (i + 1)) (fit-next k l)
 
 pub lies : (s : List ℕ) (i a e : ℕ) → e ≡ eventsOf s → Shaped s → misfits s i a (e - i) ≡ false → i < e → Lies s i a

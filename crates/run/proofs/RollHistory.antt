@@ -44,7 +44,7 @@ module _ (T : Terms) (own : ℕ) where
       let l = lines-along y (step (seatOf T own) p c) cs k (t .1) in
       rw (a, d, m, l)
 
-  pub lines-worked-out : (x : State) (cs : List Call) → OpenedAs theBench T own x → AllTyped cs → linesOf x cs ≡ linesBy (seatOf T own) (fresh (seatOf T own)) cs
+  lines-worked-out : (x : State) (cs : List Call) → OpenedAs theBench T own x → AllTyped cs → linesOf x cs ≡ linesBy (seatOf T own) (fresh (seatOf T own)) cs
   lines-worked-out x cs o t = lines-along x (fresh (seatOf T own)) cs (bench-simulates .opens T own x o) t
 
   pub any-lists : (x y : State) (cs : List Call) → OpenedAs theBench T own x → OpenedAs theBench T own y → AllTyped cs → linesOf x cs ≡ linesOf y cs
