@@ -8,7 +8,8 @@ use Rattle.agreement.specs.Record.{Agreement}
 use Rattle.agreement.specs.Filing.{fileOf}
 use Rattle.agreement.specs.Proposals.{Proposals, fileProposalOf}
 
-module _ (names counts : List ℕ) (base i : ℕ) (s t : List ℕ) (k : countIn s ≡ countIn t) (h : holdsLog s ≡ holdsLog t) (l : logIn s ≡ logIn t) where
+module _ (names counts : List ℕ) (base i : ℕ) (s t : List ℕ) (k : countIn s ≡ countIn t) (h : holdsLog s ≡ holdsLog t)
+    (l : logIn s ≡ logIn t) where
   pub same-filed : (g : Agreement) → fileOf g names counts base s i ≡ fileOf g names counts base t i
   unfolding fileOf
   same-filed g = rw (h, l, k)

@@ -1,5 +1,5 @@
--- The vote: what is chosen fits and has a place in the record, no sender that fits is better, and none is chosen exactly where none fits; and the
--- walk along the senders. Assumes nothing.
+-- The vote: what is chosen fits and has a place in the record, no sender that fits is better, and none is chosen exactly where none fits;
+-- and the walk along the senders. Assumes nothing.
 use Prim.Native.Nat.{ℕ, zero, suc, _+_, _-_, _/_, _%_, _^_, _≤_, _<_}
 use native.Mathlib.Omega.{arith}
 use mathlib.Core.List.{List}
@@ -17,7 +17,8 @@ use Rattle.agreement.specs.Limits.{mostSenders, placeOf}
 use Rattle.agreement.specs.Record.{lacksRoom}
 use Rattle.agreement.specs.Sets.{member}
 use Rattle.agreement.specs.Steps.{SetOf, Walks, beats, Contest}
-use Rattle.agreement.specs.Proposals.{Proposals, proposalsFrom, fits, NotBelow, Best, better, ifFits, bestOf, choiceOf, chosen, HasPlace, Chooses}
+use Rattle.agreement.specs.Proposals.{Proposals, proposalsFrom, fits, NotBelow, Best, better, ifFits, bestOf, choiceOf, chosen}
+use Rattle.agreement.specs.Proposals.{HasPlace, Chooses}
 use Rattle.agreement.specs.declared.Shown.{Shown}
 use Rattle.agreement.specs.declared.Choice.{Choice}
 use Rattle.agreement.specs.declared.Choice.the-variants.{Proposal, Lock}
@@ -56,7 +57,11 @@ module _ (lengths priorities names counts : List ℕ) (base a k : ℕ) (best : C
 
   pub best-loses : (r : Bool) → r ≡ beats prior (chosen best) i → r ≡ false → To best
   best-loses r f n =
-      record { sender = sym (loses prior (prefixAt names counts a k (placeOf base i) (getD lengths i 0)) (chosen best) i (sym f ∙ n)); place = c .place }
+      record {
+        sender = sym
+            (loses prior (prefixAt names counts a k (placeOf base i) (getD lengths i 0)) (chosen best) i (sym f ∙ n));
+        place = c .place;
+      }
 
   module _ (x : Bool) (y : ℕ) (s : y ≡ getD lengths i 0) (e : x ≡ prefixAt names counts a k (placeOf base i) y) where
     found : prefixAt names counts a k (placeOf base i) (getD lengths i 0) ≡ x
@@ -94,7 +99,8 @@ best-same (suc n) p p′ q h =
 pub record Choosing (lengths priorities names counts : List ℕ) (base a k set i left : ℕ) (best : Choice) : Type 0 where
   pub walk : Walks set i left
   pub room : i ≤ mostSenders
-  pub choice : Chooses (bestOf i (λ (j : ℕ). member set j && prefixAt names counts a k (placeOf base j) (getD lengths j 0)) (λ (j : ℕ). getD priorities j 0)) best
+  pub choice : Chooses (bestOf i (λ (j : ℕ). member set j && prefixAt names counts a k (placeOf base j) (getD lengths j 0))
+      (λ (j : ℕ). getD priorities j 0)) best
 
 module _ (lengths priorities names counts : List ℕ) (base a k set : ℕ) where
   abbrev q : ℕ → ℕ
@@ -156,7 +162,8 @@ module _ (lengths priorities names counts : List ℕ) (base a k set : ℕ) where
         rw (← e, t) (record { sender = h .choice .sender ∙ sym cut ∙ ap (λ (x : ℕ). bestOf x may q) u ∙ same; place = h .choice .place })
 
 module _ (m : Shown) (lengths priorities names counts : List ℕ) (base a k : ℕ) where
-  pub choice-lacks : (r : Bool) → r ≡ lacksRoom names counts base → r ≡ true → Chooses (choiceOf names counts base (proposalsFrom m lengths priorities) a k) Lock
+  pub choice-lacks : (r : Bool) → r ≡ lacksRoom names counts base → r ≡ true
+      → Chooses (choiceOf names counts base (proposalsFrom m lengths priorities) a k) Lock
   unfolding choiceOf
   choice-lacks r e t = rw (← e, t) (record { sender = refl; place = tt })
 
@@ -230,7 +237,8 @@ module _ (p : ℕ → Bool) (q : ℕ → ℕ) where
       last j same =
           let e = ap q same in
           let s = b .below in
-          either (ltb (q j) (q m)) (λ h. inl (ltb-true (q j) (q m) h)) (λ h. let g = ltb-false (q j) (q m) h in inr (omega arith, omega arith))
+          either (ltb (q j) (q m)) (λ h. inl (ltb-true (q j) (q m) h))
+          (λ h. let g = ltb-false (q j) (q m) h in inr (omega arith, omega arith))
 
   best-step : (n i : ℕ) (t : Bool) (o : Option ℕ) → p n ≡ t → bestOf n p q ≡ o → ((m : ℕ) → o ≡ some m → Best n p q m)
       → ifFits t q o n ≡ some i → Best (suc n) p q i

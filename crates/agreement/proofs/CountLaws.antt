@@ -66,7 +66,8 @@ some-next p r x i e f =
     f ∙ ap (λ (t : Bool). t || p i) e ∙ sym (some-more (p i) (count i p)) ∙ ap (λ (k : ℕ). ltb 0 (count k p)) s
 
 -- a number in a row over l
-pub over-next : (row : List ℕ) (l z i : ℕ) (r x : Bool) → r ≡ ltb 0 (count i (λ (j : ℕ). ltb l (getD row j 0))) → z ≡ getD row i 0 → x ≡ (r || ltb l z)
+pub over-next : (row : List ℕ) (l z i : ℕ) (r x : Bool) → r ≡ ltb 0 (count i (λ (j : ℕ). ltb l (getD row j 0))) → z ≡ getD row i 0
+    → x ≡ (r || ltb l z)
     → x ≡ ltb 0 (count (i + 1) (λ (j : ℕ). ltb l (getD row j 0)))
 over-next row l z i r x e s f = some-next (λ (j : ℕ). ltb l (getD row j 0)) r x i e (f ∙ ap (λ (k : ℕ). r || ltb l k) s)
 
@@ -96,13 +97,16 @@ abbrev pub anyOver : List ℕ → List ℕ → List ℕ → ℕ → ℕ → Bool
 anyOver a b c l j = ltb l (getD a j 0) || (ltb l (getD b j 0) || ltb l (getD c j 0))
 
 pub rows-next : (a b c : List ℕ) (l x y z i : ℕ) (r w : Bool) → r ≡ ltb 0 (count i (anyOver a b c l))
-    → x ≡ pick (ltb (getD b i 0) (getD c i 0)) (getD c i 0) (getD b i 0) → y ≡ pick (ltb (getD a i 0) x) x (getD a i 0) → z ≡ y → w ≡ (r || ltb l z)
+    → x ≡ pick (ltb (getD b i 0) (getD c i 0)) (getD c i 0) (getD b i 0) → y ≡ pick (ltb (getD a i 0) x) x (getD a i 0) → z ≡ y
+    → w ≡ (r || ltb l z)
     → w ≡ ltb 0 (count (i + 1) (anyOver a b c l))
 rows-next a b c l x y z i r w e f g h k =
-    let m = over-larger l (getD a i 0) x ∙ ap (λ (t : Bool). ltb l (getD a i 0) || t) (ap (ltb l) f ∙ over-larger l (getD b i 0) (getD c i 0)) in
+    let m = over-larger l (getD a i 0) x
+    ∙ ap (λ (t : Bool). ltb l (getD a i 0) || t) (ap (ltb l) f ∙ over-larger l (getD b i 0) (getD c i 0)) in
     some-next (anyOver a b c l) r w i e (k ∙ ap (λ (t : Bool). r || t) (ap (ltb l) (h ∙ g) ∙ m))
 
-pub some-all : (p : ℕ → Bool) (r : Bool) (i : ℕ) → r ≡ ltb 0 (count i p) → i ≤ mostSenders → mostSenders ≤ i → r ≡ ltb 0 (count mostSenders p)
+pub some-all : (p : ℕ → Bool) (r : Bool) (i : ℕ) → r ≡ ltb 0 (count i p) → i ≤ mostSenders → mostSenders ≤ i
+    → r ≡ ltb 0 (count mostSenders p)
 some-all p r i e h g = let s : i ≡ mostSenders = omega arith in e ∙ ap (λ (k : ℕ). ltb 0 (count k p)) s
 
 -- ---- the senders of a set one after another

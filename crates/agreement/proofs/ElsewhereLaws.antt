@@ -61,14 +61,16 @@ put-elsewhere b w names counts place L h l n c = record {
 
 module _ (names counts : List ℕ) (base : ℕ) (s : List ℕ) (i : ℕ) (f : Fit names counts base s i)
     (n : AllBelow (2 ^ 64) (namesOf (logIn s))) (c : AllBelow (2 ^ 16) (countsOf (logIn s))) where
-  stored : Elsewhere base span names counts (put names (placeOf base i) (namesOf (logIn s))) (put counts (placeOf base i) (countsOf (logIn s)))
+  stored : Elsewhere base span names counts (put names (placeOf base i) (namesOf (logIn s)))
+      (put counts (placeOf base i) (countsOf (logIn s)))
   stored =
       let e = length-blocks s (countIn s) in
       let k = few-blocks names counts base s i f in
       let h = f .few in
       put-elsewhere base span names counts (placeOf base i) (logIn s) (omega arith) (omega arith) n c
 
-  pub file-elsewhere : (g : Agreement) → Elsewhere base span names counts (fileOf g names counts base s i .names) (fileOf g names counts base s i .counts)
+  pub file-elsewhere : (g : Agreement)
+      → Elsewhere base span names counts (fileOf g names counts base s i .names) (fileOf g names counts base s i .counts)
   unfolding fileOf
   file-elsewhere g =
       cases (Elsewhere base span names counts (fileOf g names counts base s i .names) (fileOf g names counts base s i .counts))
@@ -79,10 +81,12 @@ module _ (names counts : List ℕ) (base : ℕ) (s : List ℕ) (i : ℕ) (f : Fi
       (λ q v. rw (q, v) stored)
 
   pub proposal-elsewhere : (g : Proposals) (priority : ℕ)
-      → Elsewhere base span names counts (fileProposalOf g names counts base s i priority .names) (fileProposalOf g names counts base s i priority .counts)
+      → Elsewhere base span names counts (fileProposalOf g names counts base s i priority .names)
+      (fileProposalOf g names counts base s i priority .counts)
   unfolding fileProposalOf
   proposal-elsewhere g priority =
-      cases (Elsewhere base span names counts (fileProposalOf g names counts base s i priority .names) (fileProposalOf g names counts base s i priority .counts))
+      cases (Elsewhere base span names counts (fileProposalOf g names counts base s i priority .names)
+      (fileProposalOf g names counts base s i priority .counts))
       (unfit names counts base s i || member (g .marks .aside) i) (member (g .marks .filed) i)
       (sameLog (logIn s) (filedLog names counts base (g .lengths) i) && eqb priority (getD (g .priorities) i 0))
       (λ q. rw q (untouched base span names counts))
@@ -96,8 +100,10 @@ module _ (names counts : List ℕ) (base : ℕ) (s : List ℕ) (i : ℕ) (f : Fi
 abbrev pub Short : List ℕ → Type 0
 Short lengths = (i : ℕ) → getD lengths i 0 ≤ mostBlocks
 
-module _ {b w : ℕ} {names counts names′ counts′ : List ℕ} (d : Elsewhere b w names counts names′ counts′) (base : ℕ) (far : Apart base span b w) where
-  log-same : (lengths : List ℕ) → Short lengths → (i : ℕ) → i < mostSenders → filedLog names′ counts′ base lengths i ≡ filedLog names counts base lengths i
+module _ {b w : ℕ} {names counts names′ counts′ : List ℕ} (d : Elsewhere b w names counts names′ counts′) (base : ℕ)
+    (far : Apart base span b w) where
+  log-same : (lengths : List ℕ) → Short lengths → (i : ℕ) → i < mostSenders
+      → filedLog names′ counts′ base lengths i ≡ filedLog names counts base lengths i
   log-same lengths short i l =
       let k = short i in
       d .logs (placeOf base i) (getD lengths i 0) (elim far [ inl e ↦ inl (omega arith) | inr e ↦ inr (omega arith) ])
@@ -115,7 +121,8 @@ module _ {b w : ℕ} {names counts names′ counts′ : List ℕ} (d : Elsewhere
   unfolding keptProposal
   proposal-kept-elsewhere g short i past = elim (decLt i mostSenders) [
     | yes l ↦
-        ap (λ (L : Log). pick (member (g .marks .aside) i) differing (pick (member (g .marks .filed) i) (only (record { log = L; priority = getD (g .priorities) i 0 })) nothing))
+        ap (λ (L : Log). pick (member (g .marks .aside) i) differing
+        (pick (member (g .marks .filed) i) (only (record { log = L; priority = getD (g .priorities) i 0 })) nothing))
         (log-same (g .lengths) short i l)
     | no l ↦ rw (past (omega arith))
   ]

@@ -34,7 +34,8 @@ module _ (names counts : List ℕ) (base v : ℕ) where
   pub empty-grade : (k : ℕ) → gradeOf names counts base (emptyAgreement v) k ≡ none
   unfolding gradeAmong
   empty-grade zero =
-      either (lacksRoom names counts base || overlong (replicate mostSenders 0)) (λ t. rw t) (λ t. rw t (longest-nothing mostSenders ones R nobody))
+      either (lacksRoom names counts base || overlong (replicate mostSenders 0)) (λ t. rw t)
+      (λ t. rw t (longest-nothing mostSenders ones R nobody))
   empty-grade (suc zero) = refl
   empty-grade (suc (suc k)) = refl
 

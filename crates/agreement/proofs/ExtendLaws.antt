@@ -16,7 +16,8 @@ use Rattle.message.proofs.ListedLaws.{length-at, log-empty, prefix-at, prefix-t
 use Rattle.agreement.specs.Limits.{mostSenders, placeOf}
 use Rattle.agreement.specs.Sets.{ones, count, member}
 use Rattle.agreement.specs.Record.{filedLog}
-use Rattle.agreement.specs.Steps.{SetOf, backing, Majority, nextBlock, narrowed, chunkLength, alike, narrowedBy, Far, haveBlock, MajorityAt, Extending, Following, Extended}
+use Rattle.agreement.specs.Steps.{SetOf, backing, Majority, nextBlock, narrowed, chunkLength, alike, narrowedBy, Far, haveBlock}
+use Rattle.agreement.specs.Steps.{MajorityAt, Extending, Following, Extended}
 use Rattle.agreement.specs.declared.Grade.the-variants.{Longest}
 use Rattle.agreement.proofs.SetLaws.{Meet, weigh-mono, weigh-meet, weigh-some, weigh-cong}
 use Rattle.agreement.proofs.NarrowLaws.{prefix-chunk}
@@ -42,7 +43,8 @@ module _ (names counts : List ℕ) (base : ℕ) (lengths : List ℕ) (may : ℕ)
   -- who backs a log backs its prefixes
   back-prefix : {K L : Log} → Prefix K L → (j : ℕ) → j < mostSenders → back L j ≡ true → back K j ≡ true
   back-prefix {K} {L} h j l e =
-      let a = backs L j e in and-eq-true-iff (member may j) (isPrefix K (log j)) .1 (a .0, isPrefix-iff K (log j) .1 (prefix-trans h (a .1)))
+      let a = backs L j e in
+      and-eq-true-iff (member may j) (isPrefix K (log j)) .1 (a .0, isPrefix-iff K (log j) .1 (prefix-trans h (a .1)))
 
   back-may : (L : Log) (j : ℕ) → j < mostSenders → back L j ≡ true → member may j ≡ true
   back-may L j l e = backs L j e .0
@@ -61,7 +63,8 @@ module _ (names counts : List ℕ) (base : ℕ) (lengths : List ℕ) (may : ℕ)
     -- ---- one block more
 
     -- the followers that go on as c does, where c's log starts as theirs
-    back-next : (c j : ℕ) → at c l ≡ at who l → j < mostSenders → narrowed names counts base lengths followers l (next l c) j ≡ back (at c (l + 1)) j
+    back-next : (c j : ℕ) → at c l ≡ at who l → j < mostSenders
+        → narrowed names counts base lengths followers l (next l c) j ≡ back (at c (l + 1)) j
     back-next c j e h =
         let n = ltb l (getD lengths j 0) && sameBlock (next l c) (next l j) in
         ap (λ (t : Bool). t && n) (f .at j h)
@@ -70,7 +73,8 @@ module _ (names counts : List ℕ) (base : ℕ) (lengths : List ℕ) (may : ℕ)
         ∙ ap (λ (t : Bool). member may j && t) (sym (prefix-one-more names counts (placeOf base c) (placeOf base j) l (getD lengths j 0)))
 
     module _ (narrow : ℕ) (n : ℕ) (q : n ≡ count mostSenders (member narrow)) where
-      follow : (c : ℕ) → at c l ≡ at who l → SetOf (narrowed names counts base lengths followers l (next l c)) mostSenders narrow → all < 2 * n
+      follow : (c : ℕ) → at c l ≡ at who l → SetOf (narrowed names counts base lengths followers l (next l c)) mostSenders narrow
+          → all < 2 * n
           → Following names counts base lengths may all c (l + 1) narrow
       follow c e s h = record { at = λ j k. s .at j k ∙ back-next c j e k; enough = omega arith }
 
@@ -84,7 +88,8 @@ module _ (names counts : List ℕ) (base : ℕ) (lengths : List ℕ) (may : ℕ)
         | inl e ↦ ap (λ (i : ℕ). at i l) e
         | inr m ↦
             let p = backs (at who l) c (sym (f .at c (v .place)) ∙ m) .1 in
-            sym (prefix-there names counts (placeOf base c) (getD lengths c 0) (at who l) p ∙ ap (at c) (length-at names counts (placeOf base who) l))
+            sym (prefix-there names counts (placeOf base c) (getD lengths c 0) (at who l) p
+            ∙ ap (at c) (length-at names counts (placeOf base who) l))
       ]
 
       pub follow-majority : (c : ℕ) → MajorityAt names counts base followers l who c
@@ -100,7 +105,8 @@ module _ (names counts : List ℕ) (base : ℕ) (lengths : List ℕ) (may : ℕ)
         ∙ and-assoc (member may j) (isPrefix (at who l) (log j)) n
         ∙ ap (λ (t : Bool). member may j && t) (sym (prefix-chunk names counts (placeOf base who) (placeOf base j) l (getD lengths j 0) k))
 
-    module _ (far : ℕ) (n : ℕ) (r : Far names counts base lengths followers l who far) (q : n ≡ count mostSenders (member far)) (h : all < 2 * n) where
+    module _ (far : ℕ) (n : ℕ) (r : Far names counts base lengths followers l who far) (q : n ≡ count mostSenders (member far))
+        (h : all < 2 * n) where
       pub follow-far : Following names counts base lengths may all who (l + chunkLength) far
       follow-far = record { at = λ j k. r .some (omega arith) .1 .at j k ∙ back-chunk chunkLength j k; enough = omega arith }
 
@@ -149,23 +155,27 @@ module _ (names counts : List ℕ) (base : ℕ) (lengths : List ℕ) (may : ℕ)
         first : (x : ℕ) → x ≤ length M → Prefix (at s x) M
         first x a =
             let p = backs M s (supporter M h .left) .1 in
-            subst (λ (L : Log). Prefix (at s x) L) (sym (prefix-there names counts (placeOf base s) (getD lengths s 0) M p)) (prefix-at names counts (placeOf base s) x (length M) a)
+            subst (λ (L : Log). Prefix (at s x) L) (sym (prefix-there names counts (placeOf base s) (getD lengths s 0) M p))
+            (prefix-at names counts (placeOf base s) x (length M) a)
 
         level : at s l ≡ at who l
         level =
-            prefix-same (first l (omega arith)) (extends M h (omega arith)) (length-at names counts (placeOf base s) l ∙ sym (length-at names counts (placeOf base who) l))
+            prefix-same (first l (omega arith)) (extends M h (omega arith))
+            (length-at names counts (placeOf base s) l ∙ sym (length-at names counts (placeOf base who) l))
 
         going : all < 2 * count mostSenders (narrowed names counts base lengths followers l (next l s))
         going =
             let a = weigh-mono mostSenders ones (back M) (back (at s (l + 1))) (back-prefix (first (l + 1) (omega arith))) in
-            let b = weigh-cong mostSenders ones (narrowed names counts base lengths followers l (next l s)) (back (at s (l + 1))) (λ j. back-next s j level) in
+            let b = weigh-cong mostSenders ones (narrowed names counts base lengths followers l (next l s)) (back (at s (l + 1)))
+            (λ j. back-next s j level) in
             omega arith
 
         -- so the vote has found it
         won : (c : ℕ) → MajorityAt names counts base followers l who c → next l s ≡ next l c
         won c v =
             let a = going in
-            let b = weigh-mono mostSenders ones (narrowed names counts base lengths followers l (next l s)) (haveBlock names counts base followers l (next l s)) (λ j i e.
+            let b = weigh-mono mostSenders ones (narrowed names counts base lengths followers l (next l s))
+            (haveBlock names counts base followers l (next l s)) (λ j i e.
             let x = and-eq-true-iff (member followers j) (ltb l (getD lengths j 0) && sameBlock (next l s) (next l j)) .0 e in
             let y = and-eq-true-iff (ltb l (getD lengths j 0)) (sameBlock (next l s) (next l j)) .0 (x .1) in
             and-eq-true-iff (member followers j) (sameBlock (next l s) (next l j)) .1 (x .0, y .1)) in
@@ -174,7 +184,8 @@ module _ (names counts : List ℕ) (base : ℕ) (lengths : List ℕ) (may : ℕ)
             sameBlock-eq (next l s) (next l c) (v .led (next l s) (omega arith))
 
         counted : (c : ℕ) → MajorityAt names counts base followers l who c → (narrow : ℕ)
-            → SetOf (narrowed names counts base lengths followers l (next l c)) mostSenders narrow → all < 2 * count mostSenders (member narrow)
+            → SetOf (narrowed names counts base lengths followers l (next l c)) mostSenders narrow
+            → all < 2 * count mostSenders (member narrow)
         counted c v narrow t =
             let a = going in
             let b = ap (λ (x : Block). count mostSenders (narrowed names counts base lengths followers l x)) (won c v) in
@@ -182,7 +193,8 @@ module _ (names counts : List ℕ) (base : ℕ) (lengths : List ℕ) (may : ℕ)
             omega arith
 
       pub top-majority : (c : ℕ) (narrow : ℕ) (n : ℕ) → MajorityAt names counts base followers l who c
-          → SetOf (narrowed names counts base lengths followers l (next l c)) mostSenders narrow → n ≡ count mostSenders (member narrow) → 2 * n ≤ all
+          → SetOf (narrowed names counts base lengths followers l (next l c)) mostSenders narrow → n ≡ count mostSenders (member narrow)
+          → 2 * n ≤ all
           → l ≤ mostBlocks → who < mostSenders → Extended names counts base lengths may all (Longest who l)
       top-majority c narrow n v t q z b w = record {
         top = record {

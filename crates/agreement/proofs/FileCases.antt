@@ -32,18 +32,22 @@ module _ (m : Marks) (lengths names counts : List ℕ) (base : ℕ) (s : List �
   module _ (f : Fit names counts base s i) where
     file-equivocator : (z : Bool) → z ≡ isEquivocator g i → z ≡ true → Still
     unfolding fileOf
-    file-equivocator z p q = rw (fit-not-unfit names counts base s i f, ← p, q) (record { answered = refl; marks = refl; lengthList = refl; nameList = refl; countList = refl })
+    file-equivocator z p q =
+        rw (fit-not-unfit names counts base s i f, ← p, q)
+        (record { answered = refl; marks = refl; lengthList = refl; nameList = refl; countList = refl })
 
     module _ (z : Bool) (p : z ≡ isEquivocator g i) (q : z ≡ false) (y : Bool) (u : y ≡ isVoter g i) where
       module _ (v : y ≡ true) (r : Bool) (e : r ≡ sameLog (logIn s) (filedLog names counts base lengths i)) where
         file-same : r ≡ true → Still
         unfolding fileOf
-        file-same t = rw (fit-not-unfit names counts base s i f, ← p, q, ← u, v, ← e, t) (record { answered = refl; marks = refl; lengthList = refl; nameList = refl; countList = refl })
+        file-same t = rw (fit-not-unfit names counts base s i f, ← p, q, ← u, v, ← e, t)
+            (record { answered = refl; marks = refl; lengthList = refl; nameList = refl; countList = refl })
 
         file-other : (h : Marks) → r ≡ false → h ≡ heardTwice m i
             → Files (fileOf g names counts base s i) (record { answer = Second; marks = h }) lengths names counts
         unfolding fileOf
-        file-other h t w = rw (fit-not-unfit names counts base s i f, ← p, q, ← u, v, ← e, t) (record { answered = refl; marks = w; lengthList = refl; nameList = refl; countList = refl })
+        file-other h t w = rw (fit-not-unfit names counts base s i f, ← p, q, ← u, v, ← e, t)
+            (record { answered = refl; marks = w; lengthList = refl; nameList = refl; countList = refl })
 
       file-new : (h : Marks) (ls ns cs : List ℕ) → y ≡ false
           → (ns ≡ put names (placeOf base i) (namesOf (logIn s))) × (cs ≡ put counts (placeOf base i) (countsOf (logIn s)))
@@ -51,7 +55,8 @@ module _ (m : Marks) (lengths names counts : List ℕ) (base : ℕ) (s : List �
           → Files (fileOf g names counts base s i) (record { answer = First; marks = h }) ls ns cs
       unfolding fileOf
       file-new h ls ns cs v (a, b) l w =
-          rw (fit-not-unfit names counts base s i f, ← p, q, ← u, v) (record { answered = refl; marks = w; lengthList = l; nameList = a; countList = b })
+          rw (fit-not-unfit names counts base s i f, ← p, q, ← u, v)
+          (record { answered = refl; marks = w; lengthList = l; nameList = a; countList = b })
 
 -- ---- the marks by the answer
 
@@ -84,20 +89,23 @@ module _ (voters equivocators : ℕ) (lengths names counts : List ℕ) (base : �
 
   module _ (f : Fit names counts base s i) where
     pub store-equivocator : (z : Bool) → z ≡ member equivocators i → z ≡ true → Kept
-    store-equivocator z p q = record { whole = λ m a b. file-equivocator m lengths names counts base s i f z (p ∙ ap (λ (k : ℕ). member k i) (sym b)) q }
+    store-equivocator z p q =
+        record { whole = λ m a b. file-equivocator m lengths names counts base s i f z (p ∙ ap (λ (k : ℕ). member k i) (sym b)) q }
 
     module _ (z : Bool) (p : z ≡ member equivocators i) (q : z ≡ false) (y : Bool) (u : y ≡ member voters i) where
       module _ (v : y ≡ true) (r : Bool) (e : r ≡ sameLog (logIn s) (filedLog names counts base lengths i)) where
         pub store-same : r ≡ true → Kept
         store-same t = record {
           whole = λ m a b.
-              file-same m lengths names counts base s i f z (p ∙ ap (λ (k : ℕ). member k i) (sym b)) q y (u ∙ ap (λ (k : ℕ). member k i) (sym a)) v r e t;
+              file-same m lengths names counts base s i f z (p ∙ ap (λ (k : ℕ). member k i) (sym b)) q y
+              (u ∙ ap (λ (k : ℕ). member k i) (sym a)) v r e t;
         }
 
         pub store-other : r ≡ false → LogStored voters equivocators lengths names counts base s i Second lengths names counts
         store-other t = record {
           whole = λ m a b.
-              file-other m lengths names counts base s i f z (p ∙ ap (λ (k : ℕ). member k i) (sym b)) q y (u ∙ ap (λ (k : ℕ). member k i) (sym a)) v r e (markedBy m Second i) t
+              file-other m lengths names counts base s i f z (p ∙ ap (λ (k : ℕ). member k i) (sym b)) q y
+              (u ∙ ap (λ (k : ℕ). member k i) (sym a)) v r e (markedBy m Second i) t
               (sym (marked-twice m Second i (heardTwice m i) (f .few) refl refl));
         }
 
@@ -106,7 +114,8 @@ module _ (voters equivocators : ℕ) (lengths names counts : List ℕ) (base : �
           → ls ≡ set lengths i (countIn s) → LogStored voters equivocators lengths names counts base s i First ls ns cs
       store-new ls ns cs v w l = record {
         whole = λ m a b.
-            file-new m lengths names counts base s i f z (p ∙ ap (λ (k : ℕ). member k i) (sym b)) q y (u ∙ ap (λ (k : ℕ). member k i) (sym a)) (markedBy m First i) ls ns cs v w l
+            file-new m lengths names counts base s i f z (p ∙ ap (λ (k : ℕ). member k i) (sym b)) q y
+            (u ∙ ap (λ (k : ℕ). member k i) (sym a)) (markedBy m First i) ls ns cs v w l
             (sym (marked-once m First i (heardOnce m i) (f .few) refl refl));
       }
 

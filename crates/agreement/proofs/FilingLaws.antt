@@ -28,7 +28,8 @@ pub unfit-is : (m n base : ℕ) (s : List ℕ) (i : ℕ) (l h : Bool) → l ≡ 
 unfit-is m n base s i l h e f = rw (e, f)
 
 -- with room from `base` on, a log of at most 64 blocks at a sender's place is within the lists
-pub within-room : (names counts : List ℕ) (base i k : ℕ) → base + span ≤ length names → base + span ≤ length counts → i < mostSenders → k ≤ mostBlocks
+pub within-room : (names counts : List ℕ) (base i k : ℕ) → base + span ≤ length names → base + span ≤ length counts → i < mostSenders
+    → k ≤ mostBlocks
     → within names counts (placeOf base i) k ≡ true
 within-room names counts base i k n m a h =
     let w : Within names counts (placeOf base i) k = record { few = h; inNames = omega arith; inCounts = omega arith } in of-within w
@@ -63,7 +64,8 @@ module _ (names counts : List ℕ) (base : ℕ) (s : List ℕ) (i : ℕ) where
 
     pub few-blocks : countIn s ≤ mostBlocks
     few-blocks =
-        leb-true (countIn s) mostBlocks (and-eq-true-iff (leb (countIn s) mostBlocks) (leb (headLength + blockWidth * countIn s) (length s)) .0 (f .holds) .0)
+        leb-true (countIn s) mostBlocks
+        (and-eq-true-iff (leb (countIn s) mostBlocks) (leb (headLength + blockWidth * countIn s) (length s)) .0 (f .holds) .0)
 
     pub some-bytes : 0 < length s
     some-bytes =
@@ -97,7 +99,8 @@ module _ (names counts : List ℕ) (base : ℕ) (s : List ℕ) (i : ℕ) where
         (λ q. matches-inside s names counts a k (f .holds) (within-filed k (leb-true k mostBlocks q)))
         (λ q. matches-long a k (leb-false k mostBlocks q) ∙ sym (unlike a k (leb-false k mostBlocks q)))
 
-    pub is-filed : (k p : ℕ) (r : Bool) → p ≡ placeOf base i → r ≡ matchesAt s names counts p k → r ≡ sameLog (logIn s) (logAt names counts (placeOf base i) k)
+    pub is-filed : (k p : ℕ) (r : Bool) → p ≡ placeOf base i → r ≡ matchesAt s names counts p k
+        → r ≡ sameLog (logIn s) (logAt names counts (placeOf base i) k)
     is-filed k p r q e = e ∙ ap (λ (a : ℕ). matchesAt s names counts a k) q ∙ matches-filed k
 
     -- the log in the bytes is stored at the sender's place
@@ -107,5 +110,7 @@ module _ (names counts : List ℕ) (base : ℕ) (s : List ℕ) (i : ℕ) where
 
       pub stored-filed : (ns ≡ put names (placeOf base i) (namesOf (logIn s))) × (cs ≡ put counts (placeOf base i) (countsOf (logIn s)))
       stored-filed =
-          let ok : (holdsLog s && within names counts (placeOf base i) (countIn s)) ≡ true = rw (f .holds, within-filed (countIn s) few-blocks) in
-          stored-inside (holdsLog s && within names counts (placeOf base i) (countIn s)) names counts (placeOf base i) (logIn s) r ns cs ok t .1
+          let ok : (holdsLog s && within names counts (placeOf base i) (countIn s)) ≡ true =
+          rw (f .holds, within-filed (countIn s) few-blocks) in
+          stored-inside (holdsLog s && within names counts (placeOf base i) (countIn s)) names counts (placeOf base i)
+          (logIn s) r ns cs ok t .1

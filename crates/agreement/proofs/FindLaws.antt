@@ -49,7 +49,8 @@ module _ (names counts : List ℕ) (base : ℕ) (m : Marks) (lengths : List ℕ)
   abbrev R : Reading
   R = readingOf names counts base g among
 
-  module _ (may : ℕ) (both : SetOf (λ (i : ℕ). member (m .voters) i && member among i) mostSenders may) (all : ℕ) (heard : all ≡ count mostSenders (isSender g)) where
+  module _ (may : ℕ) (both : SetOf (λ (i : ℕ). member (m .voters) i && member among i) mostSenders may) (all : ℕ)
+      (heard : all ≡ count mostSenders (isSender g)) where
     abbrev back : Log → ℕ → Bool
     back = backing names counts base lengths may
 
@@ -68,17 +69,20 @@ module _ (names counts : List ℕ) (base : ℕ) (m : Marks) (lengths : List ℕ)
     unfolding Grade
     to-grade L q = let e = supporters L in omega arith
 
-    pub find-found : (r : answer.Grade) → Extended names counts base lengths may all r → Gives (longest mostSenders ones R) names counts base r
+    pub find-found : (r : answer.Grade) → Extended names counts base lengths may all r
+        → Gives (longest mostSenders ones R) names counts base r
     find-found Nothing c = absurd (c .top)
     find-found (Longest who l) c = record {
-      log = sym (longest-by-length mostSenders ones R (record-heard mostSenders names counts base g among) (logAt names counts (placeOf base who) l)
+      log = sym (longest-by-length mostSenders ones R (record-heard mostSenders names counts base g among)
+          (logAt names counts (placeOf base who) l)
           (to-grade (logAt names counts (placeOf base who) l) (c .top .majority))
           (λ M q. let a = c .top .longest M (of-grade M q) in let e = length-at names counts (placeOf base who) l in omega arith));
       placed = (c .top .place, c .top .few);
     }
 
     -- where the empty log lacks the grade, no log has it
-    pub find-none : (x : ℕ) → x ≡ count mostSenders (member may) → 2 * x ≤ all → Gives (longest mostSenders ones R) names counts base Nothing
+    pub find-none : (x : ℕ) → x ≡ count mostSenders (member may) → 2 * x ≤ all
+        → Gives (longest mostSenders ones R) names counts base Nothing
     find-none x e h = record {
       log = sym (longest-nothing mostSenders ones R (λ q.
           let a = of-grade [] q in
@@ -103,7 +107,8 @@ module _ (names counts : List ℕ) (base : ℕ) (lengths : List ℕ) (v x : Bool
       record {
         inNames = ltb-false (length names) (base + span) (q .0);
         inCounts = ltb-false (length counts) (base + span) (q .1);
-        short = λ i h. ltb-false mostBlocks (getD lengths i 0) (weigh-none mostSenders (λ (j : ℕ). ltb mostBlocks (getD lengths j 0)) i (omega arith) h);
+        short = λ i h. ltb-false mostBlocks (getD lengths i 0)
+            (weigh-none mostSenders (λ (j : ℕ). ltb mostBlocks (getD lengths j 0)) i (omega arith) h);
       }
 
   module _ (m : Marks) (among : ℕ) where
@@ -111,7 +116,8 @@ module _ (names counts : List ℕ) (base : ℕ) (lengths : List ℕ) (v x : Bool
     unfolding gradeAmong
     among-none t = record { log = rw (barred ∙ t); placed = tt }
 
-    pub among-found : (r : answer.Grade) → (v || x) ≡ false → Gives (longest mostSenders ones (readingOf names counts base (agreementFrom m lengths) among)) names counts base r
+    pub among-found : (r : answer.Grade) → (v || x) ≡ false
+        → Gives (longest mostSenders ones (readingOf names counts base (agreementFrom m lengths) among)) names counts base r
         → Gives (gradeAmong names counts base (agreementFrom m lengths) among) names counts base r
     unfolding gradeAmong
     among-found r t h = rw (barred ∙ t) h

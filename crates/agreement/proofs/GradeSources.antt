@@ -1,5 +1,5 @@
--- Where a log that is read comes from: a log with a grade is a prefix of a sender's log, a vote is the lock or a proposal that extends it, and what is
--- kept of a sender is one of its messages. Assumes nothing.
+-- Where a log that is read comes from: a log with a grade is a prefix of a sender's log, a vote is the lock or a proposal that extends it,
+-- and what is kept of a sender is one of its messages. Assumes nothing.
 use Prim.Native.Nat.{ℕ, _<_}
 use mathlib.Core.Bool.{Bool, true, false, _&&_, false≢true, and-eq-true-iff}
 use mathlib.Core.List.{List, [], _∷_, List·Memᴰ, List·Memᴰ·head, List·Memᴰ·tail, List·Memᴰ·cases-cons, List·Memᴰ·not-nil}
@@ -16,7 +16,8 @@ use Rattle.message.proofs.LogLaws.{prefix-refl, isPrefix-iff}
 use Rattle.agreement.specs.Sets.{Inside}
 use Rattle.agreement.specs.Reading.{maySupport, longest}
 use Rattle.agreement.specs.Kept.{Kept, nothing, only, differing, heardOf, singleOf, Proposed, sameProposal}
-use Rattle.agreement.specs.Heard.{someDiffers, keptOf, logsFrom, heardLogs, onlyLog, readingFrom, gradeNow, gradeWith, ProposalHeard, proposalsFrom, heardProposals, mayChoose, priorityOf, proposedLog, orLock, voteAmong}
+use Rattle.agreement.specs.Heard.{someDiffers, keptOf, logsFrom, heardLogs, onlyLog, readingFrom, gradeNow, gradeWith, ProposalHeard}
+use Rattle.agreement.specs.Heard.{proposalsFrom, heardProposals, mayChoose, priorityOf, proposedLog, orLock, voteAmong}
 use Rattle.agreement.specs.Proposals.{bestOf}
 use Rattle.agreement.proofs.ReadingLaws.{may-iff, grade-supporter}
 use Rattle.agreement.proofs.LongestLaws.{longest-iff}
@@ -170,11 +171,13 @@ pub record ProposalSource (heard : List ProposalHeard) (v s : ℕ) (a : Proposed
   pub log : message .content .log ≡ a .log
   pub priority : message .priority ≡ a .priority
 
-proposals-source : (heard : List ProposalHeard) (v s : ℕ) (a : Proposed) → List·Memᴰ a (proposalsFrom heard v s) → ProposalSource heard v s a
+proposals-source : (heard : List ProposalHeard) (v s : ℕ) (a : Proposed) → List·Memᴰ a (proposalsFrom heard v s)
+    → ProposalSource heard v s a
 unfolding proposalsFrom
 proposals-source [] v s a i = absurd (List·Memᴰ·not-nil i)
 proposals-source (m ∷ ms) v s a i =
-    elim (first-or (eqb (m .content .view) v && eqb (m .content .sender) s) (record { log = m .content .log; priority = m .priority }) a (proposalsFrom ms v s) i) [
+    elim (first-or (eqb (m .content .view) v && eqb (m .content .sender) s) (record { log = m .content .log; priority = m .priority }) a
+    (proposalsFrom ms v s) i) [
       | inl e ↦
           let b = and-eq-true-iff (eqb (m .content .view) v) (eqb (m .content .sender) s) .0 (e .0) in
           record {

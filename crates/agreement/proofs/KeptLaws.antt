@@ -1,5 +1,5 @@
--- Filing is the one rule of Kept: the answer is the rule's, what is kept of the sender is the rule's, and of every other sender what it was.
--- Assumes nothing.
+-- Filing is the one rule of Kept: the answer is the rule's, what is kept of the sender is the rule's, and of every other sender what it
+-- was. Assumes nothing.
 use Prim.Native.Nat.{ℕ, _≤_}
 use native.Mathlib.Decide.{decLe}
 use native.Mathlib.Omega.{arith}
@@ -20,34 +20,40 @@ use Rattle.message.proofs.Acceptance.{length-blocks}
 use Rattle.message.proofs.ListedLaws.{length-at, log-stored, log-before, log-past}
 use Rattle.agreement.specs.Limits.{placeOf}
 use Rattle.agreement.specs.Sets.{member}
-use Rattle.agreement.specs.Record.{Agreement, isVoter, isEquivocator, isSender, filedLog, withFirst, withSecond, SnapshotNumber, one, two, withSnapshot}
+use Rattle.agreement.specs.Record.{Agreement, isVoter, isEquivocator, isSender, filedLog, withFirst, withSecond, SnapshotNumber, one}
+use Rattle.agreement.specs.Record.{two, withSnapshot}
 use Rattle.agreement.specs.Filing.{unfit, fileOf, Fit}
 use Rattle.agreement.specs.Proposals.{Proposals, withProposal, withAside, fileProposalOf}
-use Rattle.agreement.specs.Kept.{Kept, nothing, only, differing, Sized, SizedProposals, SameRest, heardOf, singleOf, wordOn, keep, keptLog, Proposed, sameProposal, keptProposal}
+use Rattle.agreement.specs.Kept.{Kept, nothing, only, differing, Sized, SizedProposals, SameRest, heardOf, singleOf, wordOn, keep}
+use Rattle.agreement.specs.Kept.{keptLog, Proposed, sameProposal, keptProposal}
 use Rattle.agreement.proofs.MaskLaws.{adding-same, adding-other, removing-other}
 use Rattle.agreement.proofs.FilingLaws.{fit, fit-not-unfit, few-blocks}
 
 -- by what was found: two differed before; there is one, and this is the same, or another; there is none
-pub cases : (A : Type 0) (q v e : Bool) → (q ≡ true → A) → (q ≡ false → v ≡ true → e ≡ true → A) → (q ≡ false → v ≡ true → e ≡ false → A) → (q ≡ false → v ≡ false → A) → A
+pub cases : (A : Type 0) (q v e : Bool) → (q ≡ true → A) → (q ≡ false → v ≡ true → e ≡ true → A) → (q ≡ false → v ≡ true → e ≡ false → A)
+    → (q ≡ false → v ≡ false → A) → A
 cases A q v e f g h k = either q f (λ a. either v (λ b. either e (g a b) (h a b)) (k a))
 
 -- ---- the list places
 
 module _ (names counts : List ℕ) (base : ℕ) (s : List ℕ) (i : ℕ) (f : Fit names counts base s i) where
   -- the log in the bytes, read back where it was filed
-  filed-back : logAt (put names (placeOf base i) (namesOf (logIn s))) (put counts (placeOf base i) (countsOf (logIn s))) (placeOf base i) (countIn s) ≡ logIn s
+  filed-back : logAt (put names (placeOf base i) (namesOf (logIn s))) (put counts (placeOf base i) (countsOf (logIn s))) (placeOf base i)
+      (countIn s) ≡ logIn s
   filed-back =
       let e = length-blocks s (countIn s) in
       let n = f .inNames in
       let m = f .inCounts in
       let h = f .few in
       let k = few-blocks names counts base s i f in
-      ap (logAt (put names (placeOf base i) (namesOf (logIn s))) (put counts (placeOf base i) (countsOf (logIn s))) (placeOf base i)) (sym e)
+      ap (logAt (put names (placeOf base i) (namesOf (logIn s))) (put counts (placeOf base i) (countsOf (logIn s))) (placeOf base i))
+      (sym e)
       ∙ log-stored names counts (placeOf base i) (logIn s) (omega arith) (omega arith)
 
   -- another sender's log stays
   filed-apart : (j k : ℕ) → (j ≡ i → ⊥) → k ≤ mostBlocks
-      → logAt (put names (placeOf base i) (namesOf (logIn s))) (put counts (placeOf base i) (countsOf (logIn s))) (placeOf base j) k ≡ logAt names counts (placeOf base j) k
+      → logAt (put names (placeOf base i) (namesOf (logIn s))) (put counts (placeOf base i) (countsOf (logIn s)))
+      (placeOf base j) k ≡ logAt names counts (placeOf base j) k
   filed-apart j k d h =
       let e = length-blocks s (countIn s) in
       let b = few-blocks names counts base s i f in
@@ -75,12 +81,14 @@ module _ (g : Agreement) (names counts : List ℕ) (base : ℕ) (s : List ℕ) (
 
   -- what is kept of the sender is the rule's
   pub file-kept : Sized g
-      → keptLog (fileOf g names counts base s i .names) (fileOf g names counts base s i .counts) base (fileOf g names counts base s i .agreement) i
+      → keptLog (fileOf g names counts base s i .names) (fileOf g names counts base s i .counts) base
+      (fileOf g names counts base s i .agreement) i
       ≡ keep sameLog (keptLog names counts base g i) (logIn s)
   unfolding fileOf keep keptLog
   file-kept z =
       cases3
-      (keptLog (fileOf g names counts base s i .names) (fileOf g names counts base s i .counts) base (fileOf g names counts base s i .agreement) i
+      (keptLog (fileOf g names counts base s i .names) (fileOf g names counts base s i .counts) base
+      (fileOf g names counts base s i .agreement) i
       ≡ keep sameLog (keptLog names counts base g i) (logIn s))
       (λ q. rw (no, q) (rw q refl))
       (λ q v e. rw (no, q, v, e) (rw (q, v) refl))
@@ -94,12 +102,14 @@ module _ (g : Agreement) (names counts : List ℕ) (base : ℕ) (s : List ℕ) (
 
   -- what is kept of another sender stays
   pub file-apart : (j : ℕ) → (j ≡ i → ⊥) → getD (g .lengths) j 0 ≤ mostBlocks
-      → keptLog (fileOf g names counts base s i .names) (fileOf g names counts base s i .counts) base (fileOf g names counts base s i .agreement) j
+      → keptLog (fileOf g names counts base s i .names) (fileOf g names counts base s i .counts) base
+      (fileOf g names counts base s i .agreement) j
       ≡ keptLog names counts base g j
   unfolding fileOf keptLog
   file-apart j d h =
       cases3
-      (keptLog (fileOf g names counts base s i .names) (fileOf g names counts base s i .counts) base (fileOf g names counts base s i .agreement) j
+      (keptLog (fileOf g names counts base s i .names) (fileOf g names counts base s i .counts) base
+      (fileOf g names counts base s i .agreement) j
       ≡ keptLog names counts base g j)
       (λ q. rw (no, q) refl)
       (λ q v e. rw (no, q, v, e) refl)
@@ -127,11 +137,13 @@ module _ (g : Agreement) (names counts : List ℕ) (base : ℕ) (s : List ℕ) (
       (λ q v e. rw (q, v, e) (another (fit names counts base s i (both q .0))))
       (λ q v. rw (q, v) (new (fit names counts base s i (both q .0)) (both q .1)))
     where
-      both : (unfit names counts base s i || isEquivocator g i) ≡ false → (unfit names counts base s i ≡ false) × (isEquivocator g i ≡ false)
+      both : (unfit names counts base s i || isEquivocator g i) ≡ false
+          → (unfit names counts base s i ≡ false) × (isEquivocator g i ≡ false)
       both q = or-false (unfit names counts base s i) (isEquivocator g i) q
 
 -- filing changes nothing else of the record, whatever was handed in
-pub file-rest : (g : Agreement) (names counts : List ℕ) (base : ℕ) (s : List ℕ) (i : ℕ) → SameRest g (fileOf g names counts base s i .agreement)
+pub file-rest : (g : Agreement) (names counts : List ℕ) (base : ℕ) (s : List ℕ) (i : ℕ)
+    → SameRest g (fileOf g names counts base s i .agreement)
 file-rest g names counts base s i =
     file-cases g names counts base s i (SameRest g)
     (record { view = refl; one = refl; two = refl })
@@ -157,7 +169,8 @@ module _ (names counts : List ℕ) (base : ℕ) (g : Agreement) (i : ℕ) where
     unfolding keptLog
     kept-voter = go (isVoter g i) (isEquivocator g i) apart
       where
-        go : (v e : Bool) → (v && e) ≡ false → v ≡ singleOf (pick e differing (pick v (only (filedLog names counts base (g .lengths) i)) nothing))
+        go : (v e : Bool) → (v && e) ≡ false
+            → v ≡ singleOf (pick e differing (pick v (only (filedLog names counts base (g .lengths) i)) nothing))
         go true true a = a
         go true false a = refl
         go false true a = refl
@@ -185,8 +198,10 @@ module _ (g : Proposals) (names counts : List ℕ) (base : ℕ) (s : List ℕ) (
   abbrev same : Bool
   same = sameLog (logIn s) (filedLog names counts base (g .lengths) i) && eqb priority (getD (g .priorities) i 0)
 
-  found : (A : Type 0) → (member (g .marks .aside) i ≡ true → A) → (member (g .marks .aside) i ≡ false → member (g .marks .filed) i ≡ true → same ≡ true → A)
-      → (member (g .marks .aside) i ≡ false → member (g .marks .filed) i ≡ true → same ≡ false → A) → (member (g .marks .aside) i ≡ false → member (g .marks .filed) i ≡ false → A) → A
+  found : (A : Type 0) → (member (g .marks .aside) i ≡ true → A)
+      → (member (g .marks .aside) i ≡ false → member (g .marks .filed) i ≡ true → same ≡ true → A)
+      → (member (g .marks .aside) i ≡ false → member (g .marks .filed) i ≡ true → same ≡ false → A)
+      → (member (g .marks .aside) i ≡ false → member (g .marks .filed) i ≡ false → A) → A
   found A = cases A (member (g .marks .aside) i) (member (g .marks .filed) i) same
 
   fine : unfit names counts base s i ≡ false
@@ -199,12 +214,14 @@ module _ (g : Proposals) (names counts : List ℕ) (base : ℕ) (s : List ℕ) (
       (λ q. rw (fine, q) refl) (λ q v e. rw (fine, q, v, e) refl) (λ q v e. rw (fine, q, v, e) refl) (λ q v. rw (fine, q, v) refl)
 
   pub proposal-kept : SizedProposals g
-      → keptProposal (fileProposalOf g names counts base s i priority .names) (fileProposalOf g names counts base s i priority .counts) base (fileProposalOf g names counts base s i priority .proposals) i
+      → keptProposal (fileProposalOf g names counts base s i priority .names) (fileProposalOf g names counts base s i priority .counts) base
+      (fileProposalOf g names counts base s i priority .proposals) i
       ≡ keep sameProposal (keptProposal names counts base g i) sent
   unfolding fileProposalOf keep keptProposal
   proposal-kept z =
       found
-      (keptProposal (fileProposalOf g names counts base s i priority .names) (fileProposalOf g names counts base s i priority .counts) base (fileProposalOf g names counts base s i priority .proposals) i
+      (keptProposal (fileProposalOf g names counts base s i priority .names) (fileProposalOf g names counts base s i priority .counts) base
+      (fileProposalOf g names counts base s i priority .proposals) i
       ≡ keep sameProposal (keptProposal names counts base g i) sent)
       (λ q. rw (fine, q) (rw q refl))
       (λ q v e. rw (fine, q, v, e) (rw (q, v) refl))
@@ -218,12 +235,14 @@ module _ (g : Proposals) (names counts : List ℕ) (base : ℕ) (s : List ℕ) (
       ) refl))
 
   pub proposal-apart : (j : ℕ) → (j ≡ i → ⊥) → getD (g .lengths) j 0 ≤ mostBlocks
-      → keptProposal (fileProposalOf g names counts base s i priority .names) (fileProposalOf g names counts base s i priority .counts) base (fileProposalOf g names counts base s i priority .proposals) j
+      → keptProposal (fileProposalOf g names counts base s i priority .names) (fileProposalOf g names counts base s i priority .counts) base
+      (fileProposalOf g names counts base s i priority .proposals) j
       ≡ keptProposal names counts base g j
   unfolding fileProposalOf keptProposal
   proposal-apart j d h =
       found
-      (keptProposal (fileProposalOf g names counts base s i priority .names) (fileProposalOf g names counts base s i priority .counts) base (fileProposalOf g names counts base s i priority .proposals) j
+      (keptProposal (fileProposalOf g names counts base s i priority .names) (fileProposalOf g names counts base s i priority .counts) base
+      (fileProposalOf g names counts base s i priority .proposals) j
       ≡ keptProposal names counts base g j)
       (λ q. rw (fine, q) refl)
       (λ q v e. rw (fine, q, v, e) refl)

@@ -1,5 +1,5 @@
--- What a list of messages comes to, one message at a time: keptOf goes by the rule that a record files by, and so do heardLogs and heardProposals.
--- Assumes nothing.
+-- What a list of messages comes to, one message at a time: keptOf goes by the rule that a record files by, and so do heardLogs and
+-- heardProposals. Assumes nothing.
 use Prim.Native.Nat.{ℕ}
 use mathlib.Core.Bool.{Bool, true, false, not, _&&_, _||_, and-false, and-eq-true-iff}
 use mathlib.Core.List.{List, [], _∷_, List·Memᴰ, List·Memᴰ·head, List·Memᴰ·tail}
@@ -94,7 +94,8 @@ heard-no-view heard v s h = heard-none heard v s (λ m i. inl (h m i))
 
 module _ (heard : List ProposalHeard) (m : ProposalHeard) where
   pub proposals-same : heardProposals (m ∷ heard) (m .content .view) (m .content .sender)
-      ≡ keep sameProposal (heardProposals heard (m .content .view) (m .content .sender)) (record { log = m .content .log; priority = m .priority })
+      ≡ keep sameProposal (heardProposals heard (m .content .view) (m .content .sender))
+      (record { log = m .content .log; priority = m .priority })
   unfolding proposalsFrom
   proposals-same =
       rw (mine (m .content .view) (m .content .sender))
@@ -106,7 +107,8 @@ module _ (heard : List ProposalHeard) (m : ProposalHeard) where
   unfolding proposalsFrom
   proposals-apart v s e = rw e refl
 
-  pub proposals-other : (v s : ℕ) → (v ≢ m .content .view) ⊎ (s ≢ m .content .sender) → heardProposals (m ∷ heard) v s ≡ heardProposals heard v s
+  pub proposals-other : (v s : ℕ) → (v ≢ m .content .view) ⊎ (s ≢ m .content .sender)
+      → heardProposals (m ∷ heard) v s ≡ heardProposals heard v s
   proposals-other v s d = proposals-apart v s (other (m .content .view) (m .content .sender) v s d)
 
 proposals-none : (heard : List ProposalHeard) (v s : ℕ)

@@ -20,7 +20,8 @@ use Rattle.agreement.proofs.MaskLaws.{member-past, member-zero, below-d
 pub some-no : (p : ℕ → Bool) → ((i : ℕ) → i < mostSenders → p i ≡ false) → ltb 0 (count mostSenders p) ≡ false
 some-no p h =
     either (ltb 0 (count mostSenders p))
-    (λ t. let m = weigh-some mostSenders ones p (ltb-true 0 (count mostSenders p) t) in absurd (false≢true (sym (h (m .sender) (m .below)) ∙ m .left)))
+    (λ t. let m = weigh-some mostSenders ones p (ltb-true 0 (count mostSenders p) t) in
+    absurd (false≢true (sym (h (m .sender) (m .below)) ∙ m .left)))
     (λ t. t)
 
 pub none-passes : (p : ℕ → Bool) → ltb 0 (count mostSenders p) ≡ false → (i : ℕ) → i < mostSenders → p i ≡ false
@@ -31,7 +32,8 @@ some-yes p i l e =
     either (ltb 0 (count mostSenders p)) (λ t. t) (λ t. absurd (false≢true (sym (none-passes p t i l) ∙ e)))
 
 -- one test or another
-pub some-or : (p q : ℕ → Bool) → ltb 0 (count mostSenders (λ (i : ℕ). p i || q i)) ≡ (ltb 0 (count mostSenders p) || ltb 0 (count mostSenders q))
+pub some-or : (p q : ℕ → Bool)
+    → ltb 0 (count mostSenders (λ (i : ℕ). p i || q i)) ≡ (ltb 0 (count mostSenders p) || ltb 0 (count mostSenders q))
 some-or p q =
     either (ltb 0 (count mostSenders (λ (i : ℕ). p i || q i)))
     (λ t.
@@ -39,7 +41,8 @@ some-or p q =
     t ∙ sym (either (p (m .sender))
     (λ e. ap (λ (x : Bool). x || ltb 0 (count mostSenders q)) (some-yes p (m .sender) (m .below) e))
     (λ e.
-    ap (λ (x : Bool). ltb 0 (count mostSenders p) || x) (some-yes q (m .sender) (m .below) (sym (ap (λ (x : Bool). x || q (m .sender)) e) ∙ m .left))
+    ap (λ (x : Bool). ltb 0 (count mostSenders p) || x)
+    (some-yes q (m .sender) (m .below) (sym (ap (λ (x : Bool). x || q (m .sender)) e) ∙ m .left))
     ∙ or-true (ltb 0 (count mostSenders p)))))
     (λ t.
     let a = some-no p (λ i l. or-false (p i) (q i) (none-passes (λ (j : ℕ). p j || q j) t i l) .0) in
@@ -93,4 +96,5 @@ pub rows-over : (a b c : List ℕ) (l : ℕ) (r : Bool) (i : ℕ) → r ≡ ltb 
 rows-over a b c l r i e h g =
     some-all (anyOver a b c l) r i e h g
     ∙ some-or (λ (j : ℕ). ltb l (getD a j 0)) (λ (j : ℕ). ltb l (getD b j 0) || ltb l (getD c j 0))
-    ∙ ap (λ (t : Bool). ltb 0 (count mostSenders (λ (j : ℕ). ltb l (getD a j 0))) || t) (some-or (λ (j : ℕ). ltb l (getD b j 0)) (λ (j : ℕ). ltb l (getD c j 0)))
+    ∙ ap (λ (t : Bool). ltb 0 (count mostSenders (λ (j : ℕ). ltb l (getD a j 0))) || t)
+    (some-or (λ (j : ℕ). ltb l (getD b j 0)) (λ (j : ℕ). ltb l (getD c j 0)))

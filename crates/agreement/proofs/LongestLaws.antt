@@ -5,7 +5,8 @@ use native.Mathlib.Nat.{le-refl}
 use native.Mathlib.Omega.{arith}
 use mathlib.Core.Path.{_≡_, refl, sym, ap, subst, _∙_, fun-ext}
 use mathlib.Core.Logic.{inl, inr, _↔_}
-use mathlib.Core.List.{List, [], _∷_, _++_, List·Memᴰ, List·Memᴰ·head, List·Memᴰ·tail, List·Memᴰ·cases-cons, List·Memᴰ·not-nil, Memᴰ·append-left, Memᴰ·append-right}
+use mathlib.Core.List.{List, [], _∷_, _++_, List·Memᴰ, List·Memᴰ·head, List·Memᴰ·tail, List·Memᴰ·cases-cons, List·Memᴰ·not-nil}
+use mathlib.Core.List.{Memᴰ·append-left, Memᴰ·append-right}
 use mathlib.Core.Option.{Option, some, none, Option·none-ne-some}
 use mathlib.Core.Bool.{Bool, true, false, false≢true}
 use lib.Dec.{ltb}
@@ -16,9 +17,11 @@ use Rattle.message.specs.Logs.{Block, Log, Prefix, empty, more}
 use Rattle.message.proofs.TestLaws.{either}
 use Rattle.message.proofs.LogLaws.{prefix-antisym, prefix-shorter}
 use Rattle.agreement.specs.Sets.{Inside}
-use Rattle.agreement.specs.Reading.{Reading, maySupport, Grade, hasGrade, LongestLog, Is, under, prefixes, candidates, longer, longestOf, longest}
+use Rattle.agreement.specs.Reading.{Reading, maySupport, Grade, hasGrade, LongestLog, Is, under, prefixes, candidates, longer}
+use Rattle.agreement.specs.Reading.{longestOf, longest}
 use Rattle.agreement.specs.Record.{Agreement, readingOf}
-use Rattle.agreement.proofs.ReadingLaws.{may-iff, grade-iff, grade-prefix, grade-supporter, Alike, hasGrade-cong, Beyond, hasGrade-cut, uniqueness}
+use Rattle.agreement.proofs.ReadingLaws.{may-iff, grade-iff, grade-prefix, grade-supporter, Alike, hasGrade-cong, Beyond}
+use Rattle.agreement.proofs.ReadingLaws.{hasGrade-cut, uniqueness}
 
 -- there is one right answer
 pub longest-only : (n : ℕ) (w : ℕ → ℕ) (R : Reading) (o p : Option Log) → Is n w R o → Is n w R p → o ≡ p
@@ -81,7 +84,8 @@ take p K Ls (some L) e h =
 found : (p : Log → Bool) (Ls : List Log) → Found p Ls (longestOf p Ls)
 unfolding longestOf
 found p [] = λ M i q. List·Memᴰ·not-nil i
-found p (K ∷ Ls) = either (p K) (λ e. rw e (take p K Ls (longestOf p Ls) e (found p Ls))) (λ e. rw e (skip p K Ls (longestOf p Ls) e (found p Ls)))
+found p (K ∷ Ls) = either (p K) (λ e. rw e (take p K Ls (longestOf p Ls) e (found p Ls)))
+    (λ e. rw e (skip p K Ls (longestOf p Ls) e (found p Ls)))
 
 -- ---- every log with the grade is a candidate
 

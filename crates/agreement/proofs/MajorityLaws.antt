@@ -16,7 +16,8 @@ use Rattle.agreement.proofs.CountLaws.{count-cut, walk-on, walk-end}
 
 -- ---- one turn in numbers: n of m followers have a block, a says that it is the candidate's, b that it is the next follower's
 
-new-turn : (a b : Bool) (n m w : ℕ) → w ≤ 0 → 2 * n + share (not a) w ≤ m + share a w → 2 * (share b 1 + n) + share (not b) 1 ≤ (1 + m) + share b 1
+new-turn : (a b : Bool) (n m w : ℕ) → w ≤ 0 → 2 * n + share (not a) w ≤ m + share a w
+    → 2 * (share b 1 + n) + share (not b) 1 ≤ (1 + m) + share b 1
 new-turn true true n m w z h = omega arith
 new-turn true false n m w z h = omega arith
 new-turn false true n m w z h = omega arith
@@ -57,7 +58,8 @@ module _ (names counts : List ℕ) (base : ℕ) (followers : ℕ) (l who : ℕ) 
     lead-skip off = record {
       most = λ x.
           let f = sym (walk-on followers j left walk) ∙ off in
-          let p = count-step (haveBlock names counts base followers l x) j ∙ ap (λ (t : Bool). share (t && sameBlock x (block j)) 1 + having x j) f in
+          let p = count-step (haveBlock names counts base followers l x) j
+          ∙ ap (λ (t : Bool). share (t && sameBlock x (block j)) 1 + having x j) f in
           let q = count-step (member followers) j ∙ ap (λ (t : Bool). share t 1 + count j (member followers)) f in
           let m = h .most x in
           omega arith;
@@ -69,7 +71,8 @@ module _ (names counts : List ℕ) (base : ℕ) (followers : ℕ) (l who : ℕ) 
       f = sym (walk-on followers j left walk) ∙ on
 
       holds : (x : Block) → having x (j + 1) ≡ share (sameBlock x (block j)) 1 + having x j
-      holds x = count-step (haveBlock names counts base followers l x) j ∙ ap (λ (t : Bool). share (t && sameBlock x (block j)) 1 + having x j) f
+      holds x = count-step (haveBlock names counts base followers l x) j
+          ∙ ap (λ (t : Bool). share (t && sameBlock x (block j)) 1 + having x j) f
 
       follows : count (j + 1) (member followers) ≡ 1 + count j (member followers)
       follows = count-step (member followers) j ∙ ap (λ (t : Bool). share t 1 + count j (member followers)) f
@@ -79,7 +82,8 @@ module _ (names counts : List ℕ) (base : ℕ) (followers : ℕ) (l who : ℕ) 
         most = λ x.
             let p = holds x in
             let q = follows in
-            let t = new-turn (sameBlock x (block best)) (sameBlock x (block j)) (having x j) (count j (member followers)) weight z (h .most x) in
+            let t = new-turn (sameBlock x (block best)) (sameBlock x (block j)) (having x j) (count j (member followers)) weight z
+            (h .most x) in
             omega arith;
         from = inr f;
       }
@@ -91,7 +95,8 @@ module _ (names counts : List ℕ) (base : ℕ) (followers : ℕ) (l who : ℕ) 
               let p = holds x in
               let q = follows in
               let b = sameBlock-eq (block best) (block j) (sym e ∙ y) in
-              let t = same-turn (sameBlock x (block best)) (sameBlock x (block j)) (having x j) (count j (member followers)) weight (ap (λ (z : Block). sameBlock x z) (sym b)) (h .most x) in
+              let t = same-turn (sameBlock x (block best)) (sameBlock x (block j)) (having x j) (count j (member followers)) weight
+              (ap (λ (z : Block). sameBlock x z) (sym b)) (h .most x) in
               omega arith;
           from = h .from;
         }
@@ -110,7 +115,8 @@ module _ (names counts : List ℕ) (base : ℕ) (followers : ℕ) (l who : ℕ) 
           most = λ x.
               let p = holds x in
               let q = follows in
-              let t = other-turn (sameBlock x (block best)) (sameBlock x (block j)) (having x j) (count j (member followers)) weight (apart x n) z (h .most x) in
+              let t = other-turn (sameBlock x (block best)) (sameBlock x (block j)) (having x j) (count j (member followers)) weight
+              (apart x n) z (h .most x) in
               omega arith;
           from = h .from;
         }
@@ -121,7 +127,8 @@ module _ (names counts : List ℕ) (base : ℕ) (followers : ℕ) (l who : ℕ) 
       led = λ x q. either (sameBlock x (block best)) (λ y. y) (λ n.
           let m = h .most x in
           let none = walk-end followers j left walk b in
-          let u = count-cut (haveBlock names counts base followers l x) j a (λ i g. ap (λ (t : Bool). t && sameBlock x (block i)) (none i g)) in
+          let u = count-cut (haveBlock names counts base followers l x) j a
+          (λ i g. ap (λ (t : Bool). t && sameBlock x (block i)) (none i g)) in
           let v = count-cut (member followers) j a none in
           let d = ap (λ (t : Bool). share t weight) n in
           absurd (omega arith));

@@ -1,6 +1,7 @@
 -- Sets of senders as numbers, digit by digit: what the operations of the code make of them. Assumes nothing.
 use Prim.Native.Nat.{ℕ, zero, suc, _+_, _-_, _*_, _/_, _%_, _^_, _≤_, _<_, min, max}
-use native.Mathlib.Nat.{mod-lt, mod-one, mod-eq-of-lt, pow-suc, pow-succ', two-pow-succ, div-eq-of-lt, div-self, div-lt-iff-lt-mul, lt-of-lt-of-le, mul-mod-left}
+use native.Mathlib.Nat.{mod-lt, mod-one, mod-eq-of-lt, pow-suc, pow-succ', two-pow-succ, div-eq-of-lt, div-self, div-lt-iff-lt-mul}
+use native.Mathlib.Nat.{lt-of-lt-of-le, mul-mod-left}
 use native.Mathlib.Decide.{decLe}
 use native.Mathlib.Omega.{arith}
 use mathlib.Core.Bool.{Bool, true, false, not, _&&_, _||_, and-true, and-false}
@@ -8,7 +9,8 @@ use mathlib.Core.Path.{_≡_, refl, sym, ap, ap₂, subst, _∙_}
 use borrow.Author.Tests.{eqb-true, eqb-false}
 use lib.Dec.{eqb}
 use lib.Arith.{digits-mod, mod-mul}
-use lib.Bits.{differ, bitAnd, bitOr, bitXor, and-step, or-step, xor-step, and-shr, or-shr, xor-shr, and-high, or-lt, and-lt, xor-lt, or-add-and, xor-add-and, xor-zero-r}
+use lib.Bits.{differ, bitAnd, bitOr, bitXor, and-step, or-step, xor-step, and-shr, or-shr, xor-shr, and-high, or-lt, and-lt, xor-lt}
+use lib.Bits.{or-add-and, xor-add-and, xor-zero-r}
 use lib.Count.{ones, ones-cat, ones-le}
 use lib.Pow.{pow-pos, pow-mono, pow-lt, shl-shr, shl-exact, pow-add}
 use Rattle.message.proofs.TestLaws.{either, or-true, or-no}
@@ -73,20 +75,23 @@ module _ (a b i : ℕ) where
   unfolding member
   member-and =
       ap (λ (z : ℕ). eqb z 1) and-digit
-      ∙ digits (λ (p q : ℕ). eqb (min p q) 1 ≡ (eqb p 1 && eqb q 1)) refl refl refl refl (a / 2 ^ i % 2) (b / 2 ^ i % 2) (digit-lt (a / 2 ^ i)) (digit-lt (b / 2 ^ i))
+      ∙ digits (λ (p q : ℕ). eqb (min p q) 1 ≡ (eqb p 1 && eqb q 1)) refl refl refl refl (a / 2 ^ i % 2) (b / 2 ^ i % 2)
+      (digit-lt (a / 2 ^ i)) (digit-lt (b / 2 ^ i))
 
   pub member-or : member (bitOr a b) i ≡ (member a i || member b i)
   unfolding member
   member-or =
       ap (λ (z : ℕ). eqb z 1) or-digit
-      ∙ digits (λ (p q : ℕ). eqb (max p q) 1 ≡ (eqb p 1 || eqb q 1)) refl refl refl refl (a / 2 ^ i % 2) (b / 2 ^ i % 2) (digit-lt (a / 2 ^ i)) (digit-lt (b / 2 ^ i))
+      ∙ digits (λ (p q : ℕ). eqb (max p q) 1 ≡ (eqb p 1 || eqb q 1)) refl refl refl refl (a / 2 ^ i % 2) (b / 2 ^ i % 2)
+      (digit-lt (a / 2 ^ i)) (digit-lt (b / 2 ^ i))
 
 -- what the first has and the second has not
 member-less : (a b i : ℕ) → member (bitXor a (bitAnd a b)) i ≡ (member a i && not (member b i))
 unfolding member
 member-less a b i =
     ap (λ (z : ℕ). eqb z 1) (xor-digit a (bitAnd a b) i ∙ ap (λ (z : ℕ). differ (a / 2 ^ i % 2) z) (and-digit a b i))
-    ∙ digits (λ (p q : ℕ). eqb (differ p (min p q)) 1 ≡ (eqb p 1 && not (eqb q 1))) refl refl refl refl (a / 2 ^ i % 2) (b / 2 ^ i % 2) (digit-lt (a / 2 ^ i)) (digit-lt (b / 2 ^ i))
+    ∙ digits (λ (p q : ℕ). eqb (differ p (min p q)) 1 ≡ (eqb p 1 && not (eqb q 1))) refl refl refl refl (a / 2 ^ i % 2) (b / 2 ^ i % 2)
+    (digit-lt (a / 2 ^ i)) (digit-lt (b / 2 ^ i))
 
 less-lt : (k a b : ℕ) → a < 2 ^ k → b < 2 ^ k → bitXor a (bitAnd a b) < 2 ^ k
 less-lt k a b h l = xor-lt k a (bitAnd a b) h (and-lt k a b h l)
@@ -184,16 +189,20 @@ module _ (set i : ℕ) where
   removing-lt k h = either (member set i) (λ e. rw e (omega arith)) (λ e. rw e h)
 
   pub adding-same : member (adding set i) i ≡ true
-  adding-same = ap (λ (z : ℕ). member z i) (sym (adding-or set i)) ∙ member-or set (2 ^ i) i ∙ ap (λ (t : Bool). member set i || t) (alone-same i) ∙ or-true (member set i)
+  adding-same = ap (λ (z : ℕ). member z i) (sym (adding-or set i)) ∙ member-or set (2 ^ i) i
+      ∙ ap (λ (t : Bool). member set i || t) (alone-same i) ∙ or-true (member set i)
 
   pub adding-other : (j : ℕ) → (j ≡ i → ⊥) → member (adding set i) j ≡ member set j
-  adding-other j d = ap (λ (z : ℕ). member z j) (sym (adding-or set i)) ∙ member-or set (2 ^ i) j ∙ ap (λ (t : Bool). member set j || t) (alone-other i j d) ∙ or-no (member set j)
+  adding-other j d = ap (λ (z : ℕ). member z j) (sym (adding-or set i)) ∙ member-or set (2 ^ i) j
+      ∙ ap (λ (t : Bool). member set j || t) (alone-other i j d) ∙ or-no (member set j)
 
   pub removing-same : member (removing set i) i ≡ false
-  removing-same = ap (λ (z : ℕ). member z i) (sym (removing-xor set i)) ∙ member-less set (2 ^ i) i ∙ ap (λ (t : Bool). member set i && not t) (alone-same i) ∙ and-false (member set i)
+  removing-same = ap (λ (z : ℕ). member z i) (sym (removing-xor set i)) ∙ member-less set (2 ^ i) i
+      ∙ ap (λ (t : Bool). member set i && not t) (alone-same i) ∙ and-false (member set i)
 
   pub removing-other : (j : ℕ) → (j ≡ i → ⊥) → member (removing set i) j ≡ member set j
-  removing-other j d = ap (λ (z : ℕ). member z j) (sym (removing-xor set i)) ∙ member-less set (2 ^ i) j ∙ ap (λ (t : Bool). member set j && not t) (alone-other i j d) ∙ and-true (member set j)
+  removing-other j d = ap (λ (z : ℕ). member z j) (sym (removing-xor set i)) ∙ member-less set (2 ^ i) j
+      ∙ ap (λ (t : Bool). member set j && not t) (alone-other i j d) ∙ and-true (member set j)
 
 -- ---- a number below 2 ^ (n + d) whose digits from n on are 0 is below 2 ^ n
 

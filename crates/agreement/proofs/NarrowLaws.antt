@@ -16,12 +16,14 @@ use Rattle.message.proofs.ListedLaws.{length-at, prefix-one-more}
 use Rattle.agreement.specs.Limits.{mostSenders, placeOf}
 use Rattle.agreement.specs.Sets.{weigh, member, adding}
 use Rattle.agreement.specs.Steps.{SetOf, Walks, nextBlock, narrowed, chunkLength, alike, narrowedBy, Far, Next, Chunk}
-use Rattle.agreement.proofs.CountLaws.{walk-start, walk-next, walk-below, walk-room, set-none, pass-skip, pass-yes, pass-no, pass-end}
+use Rattle.agreement.proofs.CountLaws.{walk-start, walk-next, walk-below, walk-room, set-none, pass-skip, pass-yes, pass-no}
+use Rattle.agreement.proofs.CountLaws.{pass-end}
 
 -- to have more than l is to have l + 1
 over : (l m y : ℕ) → m ≡ l + 1 → ltb l y ≡ leb m y
 over l m y e =
-    either (ltb l y) (λ t. t ∙ sym (le-leb m y (let x = ltb-true l y t in omega arith))) (λ t. t ∙ sym (lt-leb m y (let x = ltb-false l y t in omega arith)))
+    either (ltb l y) (λ t. t ∙ sym (le-leb m y (let x = ltb-true l y t in omega arith)))
+    (λ t. t ∙ sym (lt-leb m y (let x = ltb-false l y t in omega arith)))
 
 module _ (names counts : List ℕ) where
   -- the blocks at places a and b are the same
@@ -29,7 +31,8 @@ module _ (names counts : List ℕ) where
   same a b = sameBlock (blockAt names counts a) (blockAt names counts b)
 
   -- the blocks after l blocks at two places that the code found
-  pub next-same : (base l i j p q : ℕ) (r : Bool) → p ≡ placeOf base i → q ≡ placeOf base j → r ≡ sameBlock (blockAt names counts (p + l)) (blockAt names counts (q + l))
+  pub next-same : (base l i j p q : ℕ) (r : Bool) → p ≡ placeOf base i → q ≡ placeOf base j
+      → r ≡ sameBlock (blockAt names counts (p + l)) (blockAt names counts (q + l))
       → r ≡ sameBlock (nextBlock names counts base l i) (nextBlock names counts base l j)
   next-same base l i j p q r d e f = f ∙ (λ k. sameBlock (blockAt names counts (d k + l)) (blockAt names counts (e k + l)))
 
@@ -39,15 +42,19 @@ module _ (names counts : List ℕ) where
   unfolding alike
   alike-none a b = refl
 
-  pub alike-next : (a b i : ℕ) (r x : Bool) → r ≡ alike names counts a b i → x ≡ same (a + i) (b + i) → (r && x) ≡ alike names counts a b (i + 1)
+  pub alike-next : (a b i : ℕ) (r x : Bool) → r ≡ alike names counts a b i → x ≡ same (a + i) (b + i)
+      → (r && x) ≡ alike names counts a b (i + 1)
   unfolding alike
   alike-next a b i r x e f = let s : suc i ≡ i + 1 = omega arith in (λ k. e k && f k) ∙ ap (alike names counts a b) s
 
-  pub alike-all : (a b i : ℕ) (r : Bool) → r ≡ alike names counts a b i → i ≤ chunkLength → chunkLength ≤ i → r ≡ alike names counts a b chunkLength
+  pub alike-all : (a b i : ℕ) (r : Bool) → r ≡ alike names counts a b i → i ≤ chunkLength → chunkLength ≤ i
+      → r ≡ alike names counts a b chunkLength
   alike-all a b i r e h g = let s : i ≡ chunkLength = omega arith in e ∙ ap (alike names counts a b) s
 
   -- a log that is a prefix is not longer
-  short : (a b l y : ℕ) → isPrefix (logAt names counts a l) (logAt names counts b y) ≡ (isPrefix (logAt names counts a l) (logAt names counts b y) && (leb l y && true))
+  short : (a b l y : ℕ)
+      → isPrefix (logAt names counts a l)
+      (logAt names counts b y) ≡ (isPrefix (logAt names counts a l) (logAt names counts b y) && (leb l y && true))
   short a b l y =
       either (isPrefix (logAt names counts a l) (logAt names counts b y))
       (λ t.
@@ -88,7 +95,8 @@ module _ (names counts : List ℕ) where
       (λ h. le-leb (l + k) y (let x = leb-true (l + suc k) y h in omega arith))
 
   pub far-chunk : (base : ℕ) (lengths : List ℕ) (followers l c far : ℕ) → l + chunkLength ≤ mostBlocks
-      → SetOf (narrowedBy names counts base lengths followers l c chunkLength) mostSenders far → Far names counts base lengths followers l c far
+      → SetOf (narrowedBy names counts base lengths followers l c chunkLength) mostSenders far
+      → Far names counts base lengths followers l c far
   far-chunk base lengths followers l c far n s = record { some = λ h. (n, s) }
 
   pub far-none : (base : ℕ) (lengths : List ℕ) (followers l c : ℕ) → Far names counts base lengths followers l c 0
@@ -109,7 +117,8 @@ module _ (names counts lengths : List ℕ) (followers base l c : ℕ) where
   goes j = ltb l (getD lengths j 0) && sameBlock (nextBlock names counts base l c) (nextBlock names counts base l j)
 
   pub narrow-none : followers < 2 ^ mostSenders
-      → Narrowing names counts lengths followers base l c (getD names (placeOf base c + l) 0) (getD counts (placeOf base c + l) 0) 0 followers 0
+      → Narrowing names counts lengths followers base l c (getD names (placeOf base c + l) 0)
+      (getD counts (placeOf base c + l) 0) 0 followers 0
   narrow-none h = record {
     walk = walk-start followers h;
     room = omega arith;
@@ -130,18 +139,22 @@ module _ (names counts lengths : List ℕ) (followers base l c : ℕ) where
       set = s;
     }
 
-    pub narrow-skip : 0 < left → eqb (left % 2) 1 ≡ false → Narrowing names counts lengths followers base l c name count (i + 1) (left / 2) next
+    pub narrow-skip : 0 < left → eqb (left % 2) 1 ≡ false
+        → Narrowing names counts lengths followers base l c name count (i + 1) (left / 2) next
     narrow-skip p e = turn p next (pass-skip followers goes next i left (n .set) (n .walk) e)
 
     module _ (p : 0 < left) (e : eqb (left % 2) 1 ≡ true) (r : Bool)
-        (f : r ≡ (ltb l (getD lengths i 0) && (eqb name (getD names (placeOf base i + l) 0) && eqb count (getD counts (placeOf base i + l) 0)))) where
+        (f : r ≡ (ltb l (getD lengths i 0) &&
+        (eqb name (getD names (placeOf base i + l) 0) && eqb count (getD counts (placeOf base i + l) 0)))) where
       found : goes i ≡ r
       found =
           let s = n .sameName in
           let u = n .sameCount in
-          sym (f ∙ (λ x. ltb l (getD lengths i 0) && (eqb (s x) (getD names (placeOf base i + l) 0) && eqb (u x) (getD counts (placeOf base i + l) 0))))
+          sym (f ∙ (λ x. ltb l (getD lengths i 0) &&
+          (eqb (s x) (getD names (placeOf base i + l) 0) && eqb (u x) (getD counts (placeOf base i + l) 0))))
 
-      pub narrow-yes : (more : ℕ) → r ≡ true → more ≡ adding next i → Narrowing names counts lengths followers base l c name count (i + 1) (left / 2) more
+      pub narrow-yes : (more : ℕ) → r ≡ true → more ≡ adding next i
+          → Narrowing names counts lengths followers base l c name count (i + 1) (left / 2) more
       narrow-yes more t v =
           turn p more
           (subst (λ (z : ℕ). SetOf (narrowed names counts base lengths followers l (nextBlock names counts base l c)) (i + 1) z) (sym v)
@@ -201,9 +214,11 @@ module _ (names counts lengths : List ℕ) (followers base l c : ℕ) where
         (f : r ≡ (leb (l + chunkLength) (getD lengths i 0) && alike names counts a (placeOf base i + l) chunkLength)) where
       chunk-found : runs i ≡ r
       chunk-found =
-          sym (f ∙ ap (λ (z : ℕ). leb (l + chunkLength) (getD lengths i 0) && alike names counts z (placeOf base i + l) chunkLength) (n .place))
+          sym (f ∙ ap (λ (z : ℕ). leb (l + chunkLength) (getD lengths i 0) && alike names counts z (placeOf base i + l) chunkLength)
+          (n .place))
 
-      pub chunk-yes : (more : ℕ) → r ≡ true → more ≡ adding next i → Running names counts lengths followers base l c a (i + 1) (left / 2) more
+      pub chunk-yes : (more : ℕ) → r ≡ true → more ≡ adding next i
+          → Running names counts lengths followers base l c a (i + 1) (left / 2) more
       chunk-yes more t v =
           chunk-turn p more
           (subst (λ (z : ℕ). SetOf (narrowedBy names counts base lengths followers l c chunkLength) (i + 1) z) (sym v)

@@ -30,11 +30,13 @@ module _ (m : Shown) (lengths priorities names counts : List ℕ) (base : ℕ) (
 
   -- known, and all is as it was
   abbrev Still : Type 0
-  Still = FilesProposal (fileProposalOf g names counts base s i priority) (record { answer = Known; marks = m }) lengths priorities names counts
+  Still = FilesProposal (fileProposalOf g names counts base s i priority)
+      (record { answer = Known; marks = m }) lengths priorities names counts
 
   pub proposal-unfit : (r : Bool) → r ≡ unfit names counts base s i → r ≡ true → Still
   unfolding fileProposalOf
-  proposal-unfit r e t = rw (← e, t) (record { answered = refl; marks = refl; lengthList = refl; priorityList = refl; nameList = refl; countList = refl })
+  proposal-unfit r e t =
+      rw (← e, t) (record { answered = refl; marks = refl; lengthList = refl; priorityList = refl; nameList = refl; countList = refl })
 
   module _ (f : Fit names counts base s i) where
     pub proposal-aside : (z : Bool) → z ≡ member (m .aside) i → z ≡ true → Still
@@ -44,7 +46,8 @@ module _ (m : Shown) (lengths priorities names counts : List ℕ) (base : ℕ) (
         (record { answered = refl; marks = refl; lengthList = refl; priorityList = refl; nameList = refl; countList = refl })
 
     module _ (z : Bool) (p : z ≡ member (m .aside) i) (q : z ≡ false) (y : Bool) (u : y ≡ member (m .filed) i) where
-      module _ (v : y ≡ true) (r : Bool) (e : r ≡ (sameLog (logIn s) (filedLog names counts base lengths i) && eqb priority (getD priorities i 0))) where
+      module _ (v : y ≡ true) (r : Bool)
+          (e : r ≡ (sameLog (logIn s) (filedLog names counts base lengths i) && eqb priority (getD priorities i 0))) where
         pub proposal-same : r ≡ true → Still
         unfolding fileProposalOf
         proposal-same t =
@@ -52,7 +55,8 @@ module _ (m : Shown) (lengths priorities names counts : List ℕ) (base : ℕ) (
             (record { answered = refl; marks = refl; lengthList = refl; priorityList = refl; nameList = refl; countList = refl })
 
         pub proposal-other : (h : Shown) → r ≡ false → h ≡ shownTwice m i
-            → FilesProposal (fileProposalOf g names counts base s i priority) (record { answer = Second; marks = h }) lengths priorities names counts
+            → FilesProposal (fileProposalOf g names counts base s i priority)
+            (record { answer = Second; marks = h }) lengths priorities names counts
         unfolding fileProposalOf
         proposal-other h t w =
             rw (fit-not-unfit names counts base s i f, ← p, q, ← u, v, ← e, t)

@@ -34,7 +34,11 @@ grade-iff n w R L =
 pub grade-prefix : (n : ℕ) (w : ℕ → ℕ) (R : Reading) {K L : Log} → Prefix K L → Grade n w R L → Grade n w R K
 unfolding Grade
 grade-prefix n w R {K} {L} h g =
-    omega (arith, weigh-mono n w (supports R L) (supports R K) (λ i l e. let a = supports-iff R L i .0 e in supports-iff R K i .1 (a .0, prefix-trans h (a .1))))
+    omega (
+      arith,
+      weigh-mono n w (supports R L) (supports R K)
+          (λ i l e. let a = supports-iff R L i .0 e in supports-iff R K i .1 (a .0, prefix-trans h (a .1))),
+    )
 
 -- a sender below n that supports L
 pub record Supporter (n : ℕ) (R : Reading) (L : Log) : Type 0 where
@@ -160,7 +164,11 @@ module _ (n : ℕ) (w : ℕ → ℕ) where
       → weigh n w breaker < weigh n w member → Grade n w R L → ⊥
   unfolding Grade
   integrity R member breaker L may heard none cover major g =
-      omega (arith, weigh-disjoint n w (supports R L) member (R .heard) inside heard (λ i l a b. none i l b a), weigh-cover n w member breaker (R .heard) cover)
+      omega (
+        arith,
+        weigh-disjoint n w (supports R L) member (R .heard) inside heard (λ i l a b. none i l b a),
+        weigh-cover n w member breaker (R .heard) cover,
+      )
     where
       inside : Inside n (supports R L) (R .heard)
       inside i l e = may i l (supports-iff R L i .0 e .0)

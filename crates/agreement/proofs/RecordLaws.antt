@@ -129,10 +129,12 @@ module _ (n : ℕ) (names counts : List ℕ) (base : ℕ) (g : Agreement) (w : W
     unfolding gradeNow
     grade-zero =
         let f = w .few in
-        grade-among (g .marks .voters) (λ (i : ℕ). singleOf (keptLog names counts base g i)) (λ i l. kept-voter names counts base g i (not-both i (omega arith)))
+        grade-among (g .marks .voters) (λ (i : ℕ). singleOf (keptLog names counts base g i))
+        (λ i l. kept-voter names counts base g i (not-both i (omega arith)))
 
     grade-with : (has : Bool) (among : ℕ)
-        → pick has (gradeAmong names counts base g among) none ≡ gradeWith n ones (keptLog names counts base g) (pick has (some (member among)) none)
+        → pick has (gradeAmong names counts base g among) none ≡ gradeWith n ones (keptLog names counts base g)
+        (pick has (some (member among)) none)
     unfolding gradeWith
     grade-with true among = grade-among among (member among) (λ i l. refl)
     grade-with false among = refl
@@ -207,14 +209,16 @@ unfolding keptProposal
 vote-kept n names counts base g L f filed aside =
     let e : n + (mostSenders - n) ≡ mostSenders = omega arith in
     ap (λ (k : ℕ). voteAmong k (keptProposal names counts base g) L) (sym e)
-    ∙ vote-cut n (mostSenders - n) (keptProposal names counts base g) L (λ i h l. rw (aside i h (omega arith), filed i h (omega arith)) refl)
+    ∙ vote-cut n (mostSenders - n) (keptProposal names counts base g) L
+    (λ i h l. rw (aside i h (omega arith), filed i h (omega arith)) refl)
 
 -- ---- the record's choice, the lock being the k blocks at place a
 
 module _ (names counts : List ℕ) (base : ℕ) (g : Proposals) (a k : ℕ) (room : lacksRoom names counts base ≡ false)
     (short : (i : ℕ) → i < mostSenders → getD (g .lengths) i 0 ≤ mostBlocks) (lock : within names counts a k ≡ true) where
   prefix-filed : (i : ℕ) → i < mostSenders
-      → prefixAt names counts a k (placeOf base i) (getD (g .lengths) i 0) ≡ isPrefix (logAt names counts a k) (filedLog names counts base (g .lengths) i)
+      → prefixAt names counts a k (placeOf base i) (getD (g .lengths) i 0) ≡ isPrefix (logAt names counts a k)
+      (filedLog names counts base (g .lengths) i)
   prefix-filed i l =
       let r = or-false (ltb (length names) (base + span)) (ltb (length counts) (base + span)) room in
       let n = ltb-false (length names) (base + span) (r .0) in
@@ -226,7 +230,8 @@ module _ (names counts : List ℕ) (base : ℕ) (g : Proposals) (a k : ℕ) (roo
   abbrev filed : ℕ → Proposed
   filed i = record { log = filedLog names counts base (g .lengths) i; priority = getD (g .priorities) i 0 }
 
-  fits-kept : (i : ℕ) → i < mostSenders → fits names counts base g a k i ≡ mayChoose (logAt names counts a k) (keptProposal names counts base g i)
+  fits-kept : (i : ℕ) → i < mostSenders
+      → fits names counts base g a k i ≡ mayChoose (logAt names counts a k) (keptProposal names counts base g i)
   unfolding keptProposal
   fits-kept i l = rw (prefix-filed i l) (go (member (g .marks .filed) i) (member (g .marks .aside) i))
     where
@@ -237,9 +242,11 @@ module _ (names counts : List ℕ) (base : ℕ) (g : Proposals) (a k : ℕ) (roo
       go false true = refl
       go false false = refl
 
-  priority-kept : (i : ℕ) → fits names counts base g a k i ≡ true → getD (g .priorities) i 0 ≡ priorityOf (keptProposal names counts base g i)
+  priority-kept : (i : ℕ) → fits names counts base g a k i ≡ true
+      → getD (g .priorities) i 0 ≡ priorityOf (keptProposal names counts base g i)
   unfolding keptProposal
-  priority-kept i e = go (member (g .marks .filed) i) (member (g .marks .aside) i) (prefixAt names counts a k (placeOf base i) (getD (g .lengths) i 0)) e
+  priority-kept i e = go (member (g .marks .filed) i) (member (g .marks .aside) i)
+      (prefixAt names counts a k (placeOf base i) (getD (g .lengths) i 0)) e
     where
       go : (f s t : Bool) → (f && (not s && t)) ≡ true → filed i .priority ≡ priorityOf (pick s differing (pick f (only (filed i)) nothing))
       go true true t q = absurd (false≢true q)

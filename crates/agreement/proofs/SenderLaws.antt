@@ -1,5 +1,5 @@
--- S, V and the log of a sender in V, over a list of LOGs heard: each by the LOGs in the list, which of a sender's LOGs have to be passed on, and
--- the grades. Assumes nothing.
+-- S, V and the log of a sender in V, over a list of LOGs heard: each by the LOGs in the list, which of a sender's LOGs have to be passed
+-- on, and the grades. Assumes nothing.
 use Prim.Native.Nat.{ℕ}
 use mathlib.Core.Path.{_≡_, refl, sym, ap, subst, _∙_}
 use mathlib.Core.Logic.{_⊎_, inl, inr}
@@ -32,9 +32,13 @@ mem-logs (k ∷ ks) h i = go (List·Memᴰ·cases-cons i) (mem-logs ks h)
     more true j = List·Memᴰ·tail j
     more false j = j
 
-    go : (h ≡ k) ⊎ Mem h ks → (Mem h ks → Mem (h .log) (logsFrom ks (h .view) (h .sender))) → Mem (h .log) (logsFrom (k ∷ ks) (h .view) (h .sender))
+    go : (h ≡ k) ⊎ Mem h ks → (Mem h ks → Mem (h .log) (logsFrom ks (h .view) (h .sender)))
+        → Mem (h .log) (logsFrom (k ∷ ks) (h .view) (h .sender))
     go (inl e) below =
-        rw (eq-eqb (k .view) (h .view) (ap (λ (x : Content). x .view) (sym e)), eq-eqb (k .sender) (h .sender) (ap (λ (x : Content). x .sender) (sym e)))
+        rw (
+          eq-eqb (k .view) (h .view) (ap (λ (x : Content). x .view) (sym e)),
+          eq-eqb (k .sender) (h .sender) (ap (λ (x : Content). x .sender) (sym e)),
+        )
         (List·Memᴰ·head (ap (λ (x : Content). x .log) e))
     go (inr j) below = more (eqb (k .view) (h .view) && eqb (k .sender) (h .sender)) (below j)
 
@@ -63,7 +67,8 @@ unfolding keptOf
 single-all [] e M i = absurd (List·Memᴰ·not-nil i)
 single-all (x ∷ xs) e M i = go (someDiffers sameLog x xs) refl e
   where
-    go : (t : Bool) → someDiffers sameLog x xs ≡ t → singleOf {A = Log} (pick t differing (only x)) ≡ true → M ≡ onlyLog (pick t differing (only x))
+    go : (t : Bool) → someDiffers sameLog x xs ≡ t → singleOf {A = Log} (pick t differing (only x)) ≡ true
+        → M ≡ onlyLog (pick t differing (only x))
     go true q f = absurd (false≢true f)
     go false q f = elim (List·Memᴰ·cases-cons i) [ inl p ↦ p | inr j ↦ differs-all x xs q M j ]
 
@@ -85,7 +90,8 @@ pub data Status (P : Log → Type 0) (Ls : List Log) : Type 0 where
 
 -- one more log: it is enough that P holds of it where the answer to it is first or second
 pub status-add : (P : Log → Type 0) (Ls : List Log) (K : Log)
-    → ((wordOn sameLog (keptOf sameLog Ls) K ≡ first) ⊎ (wordOn sameLog (keptOf sameLog Ls) K ≡ second) → P K) → Status P Ls → Status P (K ∷ Ls)
+    → ((wordOn sameLog (keptOf sameLog Ls) K ≡ first) ⊎ (wordOn sameLog (keptOf sameLog Ls) K ≡ second) → P K) → Status P Ls
+    → Status P (K ∷ Ls)
 unfolding wordOn keptOf
 status-add P Ls K new (no-log e) =
     one-log K (new (inl (rw e))) (List·Memᴰ·head refl)

@@ -57,7 +57,8 @@ after ss = steps (record { word = known; agreement = emptyAgreement 0; names = r
 -- The lock stands past the proposals.
 abbrev filing : ProposalFiling → Sent → ProposalFiling
 filing t (proposal s L priority) =
-    fileProposalOf (t .proposals) (t .names) (t .counts) 0 (bytesOf (proposalMessage (record { sender = s; view = 0; log = L }) priority)) s priority
+    fileProposalOf (t .proposals) (t .names) (t .counts) 0
+    (bytesOf (proposalMessage (record { sender = s; view = 0; log = L }) priority)) s priority
 
 abbrev filings : ProposalFiling → List Sent → ProposalFiling
 filings t [] = t
@@ -93,7 +94,8 @@ worked (grade1 ss o) = let t = after ss in grade (gradeOf (t .names) (t .counts)
 worked (grade2 ss o) = let t = after ss in grade (gradeOf (t .names) (t .counts) 0 (t .agreement) 2)
 worked (answers ss w) = word (after ss .word)
 worked (answersProposal os w) = word (afterProposals [] os .word)
-worked (votes lock os i L) = let t = afterProposals lock os in voteIn lock t (choiceOf (t .names) (t .counts) 0 (t .proposals) span (length lock))
+worked (votes lock os i L) = let t = afterProposals lock os in
+    voteIn lock t (choiceOf (t .names) (t .counts) 0 (t .proposals) span (length lock))
 
 abbrev pub stated : Row → Finding
 stated (grade0 ss o) = grade o
@@ -168,7 +170,8 @@ rows =
     ∷ grade0 (log 31 l5 ∷ []) (some l5)
     -- a log of 64 blocks leaves its neighbour's as it is
     ∷ grade0 (log 1 l5 ∷ log 2 l5 ∷ log 0 (replicate mostBlocks (record { name = 7; count = 1 })) ∷ []) (some l5)
-    ∷ grade0 (log 0 (replicate mostBlocks (record { name = 7; count = 1 })) ∷ []) (some (replicate mostBlocks (record { name = 7; count = 1 })))
+    ∷ grade0 (log 0 (replicate mostBlocks (record { name = 7; count = 1 })) ∷ [])
+    (some (replicate mostBlocks (record { name = 7; count = 1 })))
     -- Which snapshot serves which grade. Snapshot one only: no grade 1, ..
     ∷ grade1 (log 0 l5 ∷ log 1 l5 ∷ one ∷ []) none
     ∷ grade2 (log 0 l5 ∷ log 1 l5 ∷ one ∷ []) (some l5)
@@ -244,6 +247,7 @@ rows =
 -- In each row, what is worked out is what is stated.
 pub rows-hold : map worked rows ≡ map stated rows
 unfolding
-    part put numberAt numbersAt bytesFor bytesForEach isPrefix sameLog inStep namesOf countsOf messageBytes bytesOf logAt prefixAt weigh member adding removing maySupport
+    part put numberAt numbersAt bytesFor bytesForEach isPrefix sameLog inStep namesOf countsOf messageBytes bytesOf logAt prefixAt weigh
+    member adding removing maySupport
     supports hasGrade under prefixes candidates longer longestOf longest overlong fileOf gradeAmong fileProposalOf bestOf choiceOf
 rows-hold = refl

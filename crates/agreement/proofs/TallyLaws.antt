@@ -63,7 +63,8 @@ module _ (names counts : List ℕ) (base : ℕ) (g : Agreement) (among : ℕ) wh
     abbrev L : Log
     L = logAt names counts (placeOf base i) k
 
-    supports-same : Readable names counts base (g .lengths) → (j : ℕ) → j < mostSenders → backs names counts base g among (placeOf base i) k j ≡ supports R L j
+    supports-same : Readable names counts base (g .lengths) → (j : ℕ) → j < mostSenders
+        → backs names counts base g among (placeOf base i) k j ≡ supports R L j
     unfolding backs supports maySupport
     supports-same ok j h =
         let p = or-false (leb mostSenders i) (ltb mostBlocks k) placed in

@@ -11,7 +11,8 @@ use Rattle.message.specs.Logs.{sameLog, namesOf, countsOf}
 use Rattle.message.specs.Message.{countIn, logIn}
 use Rattle.message.specs.Store.{holdsLog}
 use Rattle.agreement.specs.Limits.{mostSenders, span, placeOf}
-use Rattle.agreement.specs.Record.{Agreement, agreementFrom, isVoter, isEquivocator, filedLog, lacksRoom, heardOnce, heardTwice, withFirst, withSecond}
+use Rattle.agreement.specs.Record.{Agreement, agreementFrom, isVoter, isEquivocator, filedLog, lacksRoom, heardOnce, heardTwice}
+use Rattle.agreement.specs.Record.{withFirst, withSecond}
 use Rattle.agreement.specs.declared.Filed.{Filed}
 use Rattle.agreement.specs.declared.Marks.{Marks}
 use Rattle.agreement.specs.declared.Answer.{Answer}
@@ -27,8 +28,8 @@ wordOf First = first
 wordOf Second = second
 wordOf Known = known
 
--- Nothing can be filed: the sender has no place in the record, the lists have no room, or the bytes hold no log. The bench refuses such messages
--- and lists before it files (2, 4, 8), and judges view and window. Here nothing happens then.
+-- Nothing can be filed: the sender has no place in the record, the lists have no room, or the bytes hold no log. The bench refuses such
+-- messages and lists before it files (2, 4, 8), and judges view and window. Here nothing happens then.
 abbrev pub unfit : List ℕ → List ℕ → ℕ → List ℕ → ℕ → Bool
 unfit names counts base s i = leb mostSenders i || (lacksRoom names counts base || not (holdsLog s))
 
@@ -50,10 +51,12 @@ pub record Filing : Type 0 where
 abbrev pub unwritten : Word → Agreement → List ℕ → List ℕ → Filing
 unwritten w g names counts = record { word = w; agreement = g; names = names; counts = counts }
 
--- One more LOG of a sender in V: "the same again" is known; with another log it is second, and the sender an equivocator. What is filed stays.
+-- One more LOG of a sender in V: "the same again" is known; with another log it is second, and the sender an equivocator. What is filed
+-- stays.
 abbrev pub againOf : Agreement → List ℕ → List ℕ → ℕ → List ℕ → ℕ → Filing
 againOf g names counts base s i =
-    pick (sameLog (logIn s) (filedLog names counts base (g .lengths) i)) (unwritten known g names counts) (unwritten second (withSecond g i) names counts)
+    pick (sameLog (logIn s) (filedLog names counts base (g .lengths) i)) (unwritten known g names counts)
+    (unwritten second (withSecond g i) names counts)
 
 -- The first LOG of a sender: filed at its place.
 abbrev pub firstOf : Agreement → List ℕ → List ℕ → ℕ → List ℕ → ℕ → Filing
@@ -88,4 +91,5 @@ markedBy m Known i = m
 pub record LogStored (voters equivocators : ℕ) (lengths names counts : List ℕ) (base : ℕ) (s : List ℕ) (i : ℕ) (a : Answer)
     (lengths′ names′ counts′ : List ℕ) : Type 0 where
   pub whole : (m : Marks) → m .voters ≡ voters → m .equivocators ≡ equivocators
-      → Files (fileOf (agreementFrom m lengths) names counts base s i) (record { answer = a; marks = markedBy m a i }) lengths′ names′ counts′
+      → Files (fileOf (agreementFrom m lengths) names counts base s i)
+      (record { answer = a; marks = markedBy m a i }) lengths′ names′ counts′

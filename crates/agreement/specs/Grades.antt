@@ -17,8 +17,8 @@ use Rattle.agreement.specs.declared.Marks.{Marks}
 use Rattle.agreement.specs.declared.Grade.{Grade}
 use Rattle.agreement.specs.declared.Grade.the-variants.{Longest, Nothing}
 
--- The longest log with the grade, supporters being counted among those of the snapshot. A record with a length over 64, or lists without room
--- for its logs, has none: the bench refuses both (9, 8) before it asks.
+-- The longest log with the grade, supporters being counted among those of the snapshot. A record with a length over 64, or lists without
+-- room for its logs, has none: the bench refuses both (9, 8) before it asks.
 unfoldable pub gradeAmong : List ℕ → List ℕ → ℕ → Agreement → ℕ → Option Log
 gradeAmong names counts base g among =
     pick (lacksRoom names counts base || overlong (g .lengths)) none (longest mostSenders ones (readingOf names counts base g among))

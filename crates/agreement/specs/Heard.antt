@@ -1,5 +1,5 @@
--- One agreement by the messages heard in it, in any order and however often (document 01, "Counting in one agreement", and the words on demand 3
--- after the calendar): who is in S, E and V, and what the vote is for. No record is asked. Assumes nothing.
+-- One agreement by the messages heard in it, in any order and however often (document 01, "Counting in one agreement", and the words on
+-- demand 3 after the calendar): who is in S, E and V, and what the vote is for. No record is asked. Assumes nothing.
 use Prim.Native.Nat.{ℕ}
 use mathlib.Core.Bool.{Bool, false, not, _&&_, _||_}
 use mathlib.Core.List.{List, [], _∷_}

@@ -50,7 +50,8 @@ singleOf differing = false
 
 -- of sender i's LOGs
 unfoldable pub keptLog : List ℕ → List ℕ → ℕ → Agreement → ℕ → Kept Log
-keptLog names counts base g i = pick (isEquivocator g i) differing (pick (isVoter g i) (only (filedLog names counts base (g .lengths) i)) nothing)
+keptLog names counts base g i =
+    pick (isEquivocator g i) differing (pick (isVoter g i) (only (filedLog names counts base (g .lengths) i)) nothing)
 
 -- a proposal: its log and its priority
 pub record Proposed : Type 0 where
@@ -64,7 +65,8 @@ sameProposal a b = sameLog (a .log) (b .log) && eqb (a .priority) (b .priority)
 unfoldable pub keptProposal : List ℕ → List ℕ → ℕ → Proposals → ℕ → Kept Proposed
 keptProposal names counts base g i =
     pick (member (g .marks .aside) i) differing
-    (pick (member (g .marks .filed) i) (only (record { log = filedLog names counts base (g .lengths) i; priority = getD (g .priorities) i 0 })) nothing)
+    (pick (member (g .marks .filed) i)
+    (only (record { log = filedLog names counts base (g .lengths) i; priority = getD (g .priorities) i 0 })) nothing)
 
 -- a snapshot as a record keeps it
 abbrev pub snapshotIn : Snapshot → Option (ℕ → Bool)

@@ -66,7 +66,8 @@ pub record ProposalFiling : Type 0 where
 abbrev pub unwrittenProposal : Word → Proposals → List ℕ → List ℕ → ProposalFiling
 unwrittenProposal w g names counts = record { word = w; proposals = g; names = names; counts = counts }
 
--- One more PROPOSAL of a sender: the same again is known; "another log or another priority is second", and sets the sender's proposals aside.
+-- One more PROPOSAL of a sender: the same again is known; "another log or another priority is second", and sets the sender's proposals
+-- aside.
 abbrev pub proposalAgainOf : Proposals → List ℕ → List ℕ → ℕ → List ℕ → ℕ → ℕ → ProposalFiling
 proposalAgainOf g names counts base s i priority =
     pick (sameLog (logIn s) (filedLog names counts base (g .lengths) i) && eqb priority (getD (g .priorities) i 0))
@@ -86,7 +87,8 @@ firstProposalOf g names counts base s i priority = record {
 unfoldable pub fileProposalOf : Proposals → List ℕ → List ℕ → ℕ → List ℕ → ℕ → ℕ → ProposalFiling
 fileProposalOf g names counts base s i priority =
     pick (unfit names counts base s i || member (g .marks .aside) i) (unwrittenProposal known g names counts)
-    (pick (member (g .marks .filed) i) (proposalAgainOf g names counts base s i priority) (firstProposalOf g names counts base s i priority))
+    (pick (member (g .marks .filed) i) (proposalAgainOf g names counts base s i priority)
+    (firstProposalOf g names counts base s i priority))
 
 -- A call answered and left record and lists so.
 pub record FilesProposal (t : ProposalFiling) (r : FiledProposal) (lengths priorities names counts : List ℕ) : Type 0 where

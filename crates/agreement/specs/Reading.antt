@@ -1,5 +1,5 @@
--- Counting in one agreement (document 01, "Counting in one agreement"): who supports a log, which logs have a grade, and the longest of them.
--- Assumes nothing.
+-- Counting in one agreement (document 01, "Counting in one agreement"): who supports a log, which logs have a grade, and the longest of
+-- them. Assumes nothing.
 use Prim.Native.Nat.{ℕ, zero, suc, _*_, _<_}
 use mathlib.Core.Bool.{Bool, true, false, _&&_}
 use mathlib.Core.List.{List, [], _∷_, _++_}

@@ -94,7 +94,8 @@ pub record Next (names counts : List ℕ) (base l : ℕ) : Type 0 where
 -- The majority vote (Boyer and Moore), after the followers below j: twice those that have the candidate's block are at most `weight` more
 -- than the followers, and twice those that have any other block at least `weight` fewer.
 pub record Leads (names counts : List ℕ) (base : ℕ) (followers : ℕ) (l who j best weight : ℕ) : Type 0 where
-  pub most : (x : Block) → 2 * count j (haveBlock names counts base followers l x) + share (not (sameBlock x (nextBlock names counts base l best))) weight
+  pub most : (x : Block)
+      → 2 * count j (haveBlock names counts base followers l x) + share (not (sameBlock x (nextBlock names counts base l best))) weight
       ≤ count j (member followers) + share (sameBlock x (nextBlock names counts base l best)) weight
   pub from : (best ≡ who) ⊎ (member followers best ≡ true)
 
@@ -113,7 +114,8 @@ pub record Extending (names counts : List ℕ) (base : ℕ) (lengths : List ℕ)
 
 -- the followers are those whose log starts with the l blocks at sender `who`'s place, and are a majority
 pub record Following (names counts : List ℕ) (base : ℕ) (lengths : List ℕ) (may : ℕ) (all who l : ℕ) (followers : ℕ) : Type 0 where
-  pub at : (j : ℕ) → j < mostSenders → member followers j ≡ backing names counts base lengths may (logAt names counts (placeOf base who) l) j
+  pub at : (j : ℕ) → j < mostSenders
+      → member followers j ≡ backing names counts base lengths may (logAt names counts (placeOf base who) l) j
   pub enough : all < 2 * count mostSenders (member followers)
 
 -- the l blocks at sender `who`'s place have a majority, and no longer log has one

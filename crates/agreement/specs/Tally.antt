@@ -12,8 +12,8 @@ use Rattle.agreement.specs.Sets.{count}
 use Rattle.agreement.specs.Reading.{supports}
 use Rattle.agreement.specs.Record.{Agreement, lacksRoom, overlong, readingOf}
 
--- How many support L, those of `among` being the ones that may (TallyLaws: tally-iff). Of a record with a length over 64, or lists without room for
--- its logs, nobody: such a record gives no grade either.
+-- How many support L, those of `among` being the ones that may (TallyLaws: tally-iff). Of a record with a length over 64, or lists without
+-- room for its logs, nobody: such a record gives no grade either.
 unfoldable pub supportersOf : List ℕ → List ℕ → ℕ → Agreement → ℕ → Log → ℕ
 supportersOf names counts base g among L =
     pick (lacksRoom names counts base || overlong (g .lengths)) 0 (count mostSenders (supports (readingOf names counts base g among) L))

@@ -63,7 +63,8 @@ fn store_fit(
     sender: u8,
 ) -> Answer
     requires { ⌜ Fit (now names) (now counts) base (now bytes) sender ⌝ }
-    ensures { λ r. ⌜ LogStored voters equivocators (now (lengths .entry)) (now (names .entry)) (now (counts .entry)) base (now (bytes .entry)) sender r
+    ensures { λ r. ⌜ LogStored voters equivocators (now (lengths .entry)) (now (names .entry)) (now (counts .entry)) base
+        (now (bytes .entry)) sender r
         (now (lengths .exit)) (now (names .exit)) (now (counts .exit)) ⌝ }
 {
     let i = sender as usize;
@@ -93,7 +94,8 @@ pub fn store(
     bytes: &[u8],
     sender: u8,
 ) -> Answer
-    ensures { λ r. ⌜ LogStored voters equivocators (now (lengths .entry)) (now (names .entry)) (now (counts .entry)) base (now (bytes .entry)) sender r
+    ensures { λ r. ⌜ LogStored voters equivocators (now (lengths .entry)) (now (names .entry)) (now (counts .entry)) base
+        (now (bytes .entry)) sender r
         (now (lengths .exit)) (now (names .exit)) (now (counts .exit)) ⌝ }
 {
     if unfit(names.len(), counts.len(), base, bytes, sender) {
@@ -122,7 +124,9 @@ pub fn file(
     bytes: &[u8],
     sender: u8,
 ) -> Filed
-    ensures { λ r. ⌜ Files (fileOf (agreementFrom g (now (lengths .entry))) (now (names .entry)) (now (counts .entry)) base (now (bytes .entry)) sender) r (now (lengths .exit)) (now (names .exit)) (now (counts .exit)) ⌝ }
+    ensures { λ r. ⌜ Files
+        (fileOf (agreementFrom g (now (lengths .entry))) (now (names .entry)) (now (counts .entry)) base (now (bytes .entry)) sender) r
+        (now (lengths .exit)) (now (names .exit)) (now (counts .exit)) ⌝ }
 {
     let answer = store(
         g.voters,

@@ -14,7 +14,8 @@ ghost use Rattle.agreement.specs.Sets.{ones};
 ghost use Rattle.agreement.specs.Reading.{longest};
 ghost use Rattle.agreement.specs.Record.{agreementFrom, readingOf};
 ghost use Rattle.agreement.specs.Grades.{Gives, gradeAmong, snapshotFor, gradeOf};
-ghost use Rattle.agreement.specs.Steps.{Readable, SetOf, Next, Chunk, nextBlock, narrowed, chunkLength, alike, narrowedBy, Far, MajorityAt, Extending, Extended};
+ghost use Rattle.agreement.specs.Steps.{Readable, SetOf, Next, Chunk, nextBlock, narrowed, chunkLength, alike, narrowedBy, Far};
+ghost use Rattle.agreement.specs.Steps.{MajorityAt, Extending, Extended};
 use super::Grade;
 use super::Marks;
 use super::Snapshot;
@@ -35,7 +36,8 @@ const CHUNK: usize = 8;
 // The block at a is the block at b.
 fn same_block(names: &[u64], counts: &[u16], a: usize, b: usize) -> bool
     requires { ⌜ ((a < length (now names)) × (b < length (now names))) × ((a < length (now counts)) × (b < length (now counts))) ⌝ }
-    ensures { λ r. ⌜ r ≡ sameBlock (blockAt (now (names .entry)) (now (counts .entry)) a) (blockAt (now (names .entry)) (now (counts .entry)) b) ⌝ }
+    ensures { λ r. ⌜ r ≡ sameBlock (blockAt (now (names .entry)) (now (counts .entry)) a)
+        (blockAt (now (names .entry)) (now (counts .entry)) b) ⌝ }
 {
     (names[a] == names[b]) & (counts[a] == counts[b])
 }
@@ -43,7 +45,8 @@ fn same_block(names: &[u64], counts: &[u16], a: usize, b: usize) -> bool
 // The blocks that stand after l blocks at two senders' places are the same.
 fn same_next(names: &[u64], counts: &[u16], base: u32, l: usize, i: usize, j: usize) -> bool
     requires { ⌜ (Next (now names) (now counts) base l) × ((i < mostSenders) × (j < mostSenders)) ⌝ }
-    ensures { λ r. ⌜ r ≡ sameBlock (nextBlock (now (names .entry)) (now (counts .entry)) base l i) (nextBlock (now (names .entry)) (now (counts .entry)) base l j) ⌝ }
+    ensures { λ r. ⌜ r ≡ sameBlock (nextBlock (now (names .entry)) (now (counts .entry)) base l i)
+        (nextBlock (now (names .entry)) (now (counts .entry)) base l j) ⌝ }
 {
     same_block(names, counts, place_of(base, i) + l, place_of(base, j) + l)
 }
@@ -60,7 +63,8 @@ fn goes_on(
     j: usize,
 ) -> bool
     requires { ⌜ (Next (now names) (now counts) base l) × (j < mostSenders) ⌝ }
-    ensures { λ r. ⌜ r ≡ (ltb l (getD (now (lengths .entry)) j 0) && (eqb name (getD (now (names .entry)) (placeOf base j + l) 0) && eqb count (getD (now (counts .entry)) (placeOf base j + l) 0))) ⌝ }
+    ensures { λ r. ⌜ r ≡ (ltb l (getD (now (lengths .entry)) j 0) &&
+        (eqb name (getD (now (names .entry)) (placeOf base j + l) 0) && eqb count (getD (now (counts .entry)) (placeOf base j + l) 0))) ⌝ }
 {
     let b = base as usize + MOST_BLOCKS * j + l;
     (l < wide(lengths[j])) & ((name == names[b]) & (count == counts[b]))
@@ -77,7 +81,9 @@ fn narrow(
     c: usize,
 ) -> u32
     requires { ⌜ (Next (now names) (now counts) base l) × (c < mostSenders) ⌝ }
-    ensures { λ r. ⌜ SetOf (narrowed (now (names .entry)) (now (counts .entry)) base (now (lengths .entry)) followers l (nextBlock (now (names .entry)) (now (counts .entry)) base l c)) mostSenders r ⌝ }
+    ensures { λ r. ⌜ SetOf
+        (narrowed (now (names .entry)) (now (counts .entry)) base (now (lengths .entry)) followers l
+        (nextBlock (now (names .entry)) (now (counts .entry)) base l c)) mostSenders r ⌝ }
 {
     let a = base as usize + MOST_BLOCKS * c + l;
     let name = names[a];
@@ -101,7 +107,8 @@ fn narrow(
 
 // The chunk of blocks at a is the chunk of blocks at b.
 fn same_chunk(names: &[u64], counts: &[u16], a: usize, b: usize) -> bool
-    requires { ⌜ ((a + chunkLength ≤ length (now names)) × (b + chunkLength ≤ length (now names))) × ((a + chunkLength ≤ length (now counts)) × (b + chunkLength ≤ length (now counts))) ⌝ }
+    requires { ⌜ ((a + chunkLength ≤ length (now names)) × (b + chunkLength ≤ length (now names))) ×
+        ((a + chunkLength ≤ length (now counts)) × (b + chunkLength ≤ length (now counts))) ⌝ }
     ensures { λ r. ⌜ r ≡ alike (now (names .entry)) (now (counts .entry)) a b chunkLength ⌝ }
 {
     let mut same = true;
@@ -124,7 +131,8 @@ fn chunk_goes_on(
     j: usize,
 ) -> bool
     requires { ⌜ Chunk (now names) (now counts) base l a j ⌝ }
-    ensures { λ r. ⌜ r ≡ (leb (l + chunkLength) (getD (now (lengths .entry)) j 0) && alike (now (names .entry)) (now (counts .entry)) a (placeOf base j + l) chunkLength) ⌝ }
+    ensures { λ r. ⌜ r ≡ (leb (l + chunkLength) (getD (now (lengths .entry)) j 0) && alike (now (names .entry)) (now (counts .entry)) a
+        (placeOf base j + l) chunkLength) ⌝ }
 {
     let b = base as usize + MOST_BLOCKS * j + l;
     let blocks = wide(lengths[j]);
@@ -142,7 +150,8 @@ fn narrow_chunk(
     c: usize,
 ) -> u32
     requires { ⌜ (Next (now names) (now counts) base l) × ((l + chunkLength ≤ mostBlocks) × (c < mostSenders)) ⌝ }
-    ensures { λ r. ⌜ SetOf (narrowedBy (now (names .entry)) (now (counts .entry)) base (now (lengths .entry)) followers l c chunkLength) mostSenders r ⌝ }
+    ensures { λ r. ⌜ SetOf
+        (narrowedBy (now (names .entry)) (now (counts .entry)) base (now (lengths .entry)) followers l c chunkLength) mostSenders r ⌝ }
 {
     let a = base as usize + MOST_BLOCKS * c + l;
     let mut next = 0u32;
@@ -182,7 +191,7 @@ fn narrow_far(
 }
 
 // A sender that has, after l blocks, the block that more than half of the followers have there, if there is one: a majority
-// majority_sender (Boyer and Moore), in one pass.
+// vote (Boyer and Moore), in one pass.
 fn majority_sender(
     names: &[u64],
     counts: &[u16],
@@ -220,7 +229,7 @@ fn majority_sender(
 }
 
 // The longest log with the grade, where the empty log has it. The next blocks are first looked for at `who`, which nearly always
-// stays with the majority; where it has left, a majority_sender tells whom to walk along with, or that nothing longer has the grade.
+// stays with the majority; where it has left, a majority vote tells whom to walk along with, or that nothing longer has the grade.
 fn extend(
     names: &[u64],
     counts: &[u16],
@@ -264,7 +273,10 @@ fn extend(
 // The longest log with the grade. The empty log has it where more than half of S may support: if it has not, no log has.
 fn find(names: &[u64], counts: &[u16], lengths: &[u8; 32], g: Marks, among: u32, base: u32) -> Grade
     requires { ⌜ Readable (now names) (now counts) base (now lengths) ⌝ }
-    ensures { λ r. ⌜ Gives (longest mostSenders ones (readingOf (now (names .entry)) (now (counts .entry)) base (agreementFrom g (now (lengths .entry))) among)) (now (names .entry)) (now (counts .entry)) base r ⌝ }
+    ensures { λ r. ⌜ Gives
+        (longest mostSenders ones
+        (readingOf (now (names .entry)) (now (counts .entry)) base (agreementFrom g (now (lengths .entry))) among)) (now (names .entry))
+        (now (counts .entry)) base r ⌝ }
 {
     let may = in_both(g.voters, among);
     let all = senders(g);
@@ -283,7 +295,8 @@ fn grade_among(
     among: u32,
     base: u32,
 ) -> Grade
-    ensures { λ r. ⌜ Gives (gradeAmong (now (names .entry)) (now (counts .entry)) base (agreementFrom g (now (lengths .entry))) among) (now (names .entry)) (now (counts .entry)) base r ⌝ }
+    ensures { λ r. ⌜ Gives (gradeAmong (now (names .entry)) (now (counts .entry)) base (agreementFrom g (now (lengths .entry))) among)
+        (now (names .entry)) (now (counts .entry)) base r ⌝ }
 {
     if lacks_room(names.len(), counts.len(), base) | is_over(lengths, MOST_BLOCKS) {
         return Grade::Nothing;
@@ -313,7 +326,8 @@ pub fn grade(
     base: u32,
     grade: u8,
 ) -> Grade
-    ensures { λ r. ⌜ Gives (gradeOf (now (names .entry)) (now (counts .entry)) base (agreementFrom g (now (lengths .entry))) grade) (now (names .entry)) (now (counts .entry)) base r ⌝ }
+    ensures { λ r. ⌜ Gives (gradeOf (now (names .entry)) (now (counts .entry)) base (agreementFrom g (now (lengths .entry))) grade)
+        (now (names .entry)) (now (counts .entry)) base r ⌝ }
 {
     let s = serving(g, grade);
     if s.taken == 0 {

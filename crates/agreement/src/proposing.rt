@@ -11,7 +11,8 @@ ghost use Rattle.message.specs.Store.{logAt, prefixAt};
 ghost use Rattle.agreement.specs.Limits.{mostSenders, placeOf};
 ghost use Rattle.agreement.specs.Filing.{Fit};
 ghost use Rattle.agreement.specs.Steps.{Contest, beats};
-ghost use Rattle.agreement.specs.Proposals.{emptyShown, proposalsFrom, shownOnce, shownTwice, fileProposalOf, FilesProposal, ifFits, choiceOf, chosen, Chooses};
+ghost use Rattle.agreement.specs.Proposals.{emptyShown, proposalsFrom, shownOnce, shownTwice, fileProposalOf, FilesProposal, ifFits};
+ghost use Rattle.agreement.specs.Proposals.{choiceOf, chosen, Chooses};
 use super::Answer;
 use super::Choice;
 use super::FiledProposal;
@@ -68,7 +69,8 @@ fn is_same(
     priority: u64,
 ) -> bool
     requires { ⌜ Fit (now names) (now counts) base (now bytes) sender ⌝ }
-    ensures { λ r. ⌜ r ≡ (sameLog (logIn (now (bytes .entry))) (logAt (now (names .entry)) (now (counts .entry)) (placeOf base sender) length) && eqb priority held) ⌝ }
+    ensures { λ r. ⌜ r ≡ (sameLog (logIn (now (bytes .entry)))
+        (logAt (now (names .entry)) (now (counts .entry)) (placeOf base sender) length) && eqb priority held) ⌝ }
 {
     is_filed(names, counts, base, length, bytes, sender) & (priority == held)
 }
@@ -86,7 +88,9 @@ fn file_fit(
     priority: u64,
 ) -> FiledProposal
     requires { ⌜ Fit (now names) (now counts) base (now bytes) sender ⌝ }
-    ensures { λ r. ⌜ FilesProposal (fileProposalOf (proposalsFrom g (now (lengths .entry)) (now (priorities .entry))) (now (names .entry)) (now (counts .entry)) base (now (bytes .entry)) sender priority) r (now (lengths .exit)) (now (priorities .exit)) (now (names .exit)) (now (counts .exit)) ⌝ }
+    ensures { λ r. ⌜ FilesProposal
+        (fileProposalOf (proposalsFrom g (now (lengths .entry)) (now (priorities .entry))) (now (names .entry)) (now (counts .entry)) base
+        (now (bytes .entry)) sender priority) r (now (lengths .exit)) (now (priorities .exit)) (now (names .exit)) (now (counts .exit)) ⌝ }
 {
     let i = sender as usize;
     if has(g.aside, i) {
@@ -137,7 +141,9 @@ pub fn file(
     sender: u8,
     priority: u64,
 ) -> FiledProposal
-    ensures { λ r. ⌜ FilesProposal (fileProposalOf (proposalsFrom g (now (lengths .entry)) (now (priorities .entry))) (now (names .entry)) (now (counts .entry)) base (now (bytes .entry)) sender priority) r (now (lengths .exit)) (now (priorities .exit)) (now (names .exit)) (now (counts .exit)) ⌝ }
+    ensures { λ r. ⌜ FilesProposal
+        (fileProposalOf (proposalsFrom g (now (lengths .entry)) (now (priorities .entry))) (now (names .entry)) (now (counts .entry)) base
+        (now (bytes .entry)) sender priority) r (now (lengths .exit)) (now (priorities .exit)) (now (names .exit)) (now (counts .exit)) ⌝ }
 {
     if unfit(names.len(), counts.len(), base, bytes, sender) {
         return FiledProposal {
@@ -183,7 +189,9 @@ fn best_to(
     i: usize,
 ) -> Choice
     requires { ⌜ Contest best i ⌝ }
-    ensures { λ r. ⌜ Chooses (ifFits (prefixAt (now (names .entry)) (now (counts .entry)) a k (placeOf base i) (getD (now (lengths .entry)) i 0)) (λ (j : ℕ). getD (now (priorities .entry)) j 0) (chosen best) i) r ⌝ }
+    ensures { λ r. ⌜ Chooses
+        (ifFits (prefixAt (now (names .entry)) (now (counts .entry)) a k (placeOf base i) (getD (now (lengths .entry)) i 0))
+        (λ (j : ℕ). getD (now (priorities .entry)) j 0) (chosen best) i) r ⌝ }
 {
     if beats(best, priorities, i) {
         let at = base as usize + MOST_BLOCKS * i;
@@ -207,7 +215,9 @@ pub fn choose(
     a: usize,
     k: usize,
 ) -> Choice
-    ensures { λ r. ⌜ Chooses (choiceOf (now (names .entry)) (now (counts .entry)) base (proposalsFrom g (now (lengths .entry)) (now (priorities .entry))) a k) r ⌝ }
+    ensures { λ r. ⌜ Chooses
+        (choiceOf (now (names .entry)) (now (counts .entry)) base (proposalsFrom g (now (lengths .entry)) (now (priorities .entry))) a k) r
+        ⌝ }
 {
     if lacks_room(names.len(), counts.len(), base) {
         return Choice::Lock;

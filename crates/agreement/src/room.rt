@@ -39,7 +39,8 @@ pub(crate) fn lacks_room(names: usize, counts: usize, base: u32) -> bool
 
 // Nothing can be filed: no place for the sender, no room in the lists of these lengths, or no log in the bytes.
 pub(crate) fn unfit(names: usize, counts: usize, base: u32, bytes: &[u8], sender: u8) -> bool
-    ensures { λ r. ⌜ r ≡ (leb mostSenders sender || ((ltb names (base + span) || ltb counts (base + span)) || not (holdsLog (now (bytes .entry))))) ⌝ }
+    ensures { λ r. ⌜ r ≡ (leb mostSenders sender ||
+        ((ltb names (base + span) || ltb counts (base + span)) || not (holdsLog (now (bytes .entry))))) ⌝ }
 {
     (MOST_SENDERS <= sender as usize)
         | (lacks_room(names, counts, base) | !message::store::holds_log(bytes))
@@ -55,7 +56,8 @@ pub(crate) fn is_filed(
     sender: u8,
 ) -> bool
     requires { ⌜ Fit (now names) (now counts) base (now bytes) sender ⌝ }
-    ensures { λ r. ⌜ r ≡ sameLog (logIn (now (bytes .entry))) (logAt (now (names .entry)) (now (counts .entry)) (placeOf base sender) length) ⌝ }
+    ensures { λ r. ⌜ r ≡ sameLog (logIn (now (bytes .entry)))
+        (logAt (now (names .entry)) (now (counts .entry)) (placeOf base sender) length) ⌝ }
 {
     let at = place_of(base, sender as usize);
     message::store::matches(bytes, names, counts, at, length as usize)

@@ -60,7 +60,8 @@ fn larger(a: u8, b: u8) -> u8
 // Some sender's number in one of three rows is over l. The largest of three is tested, not each.
 pub fn are_over(a: &[u8; 32], b: &[u8; 32], c: &[u8; 32], l: usize) -> bool
     ensures { λ r. ⌜ r ≡ (ltb 0 (count mostSenders (λ i. ltb l (getD (now (a .entry)) i 0)))
-        || (ltb 0 (count mostSenders (λ i. ltb l (getD (now (b .entry)) i 0))) || ltb 0 (count mostSenders (λ i. ltb l (getD (now (c .entry)) i 0))))) ⌝ }
+        || (ltb 0 (count mostSenders (λ i. ltb l (getD (now (b .entry)) i 0))) || ltb 0
+        (count mostSenders (λ i. ltb l (getD (now (c .entry)) i 0))))) ⌝ }
 {
     let mut over = false;
     let mut i = 0;
@@ -103,7 +104,8 @@ fn count_behind(
     a: usize,
     k: usize,
 ) -> usize
-    ensures { λ r. ⌜ (r ≡ count mostSenders (backs (now (names .entry)) (now (counts .entry)) base (agreementFrom g (now (lengths .entry))) among a k)) × (r ≤ mostSenders) ⌝ }
+    ensures { λ r. ⌜ (r ≡ count mostSenders
+        (backs (now (names .entry)) (now (counts .entry)) base (agreementFrom g (now (lengths .entry))) among a k)) × (r ≤ mostSenders) ⌝ }
 {
     let mut n = 0;
     let mut j = 0;
@@ -126,7 +128,8 @@ pub fn supporters(
     i: u8,
     k: u8,
 ) -> usize
-    ensures { λ r. ⌜ (r ≡ supportersAt (now (names .entry)) (now (counts .entry)) base (agreementFrom g (now (lengths .entry))) among i k) × (r ≤ mostSenders) ⌝ }
+    ensures { λ r. ⌜ (r ≡ supportersAt (now (names .entry)) (now (counts .entry)) base (agreementFrom g (now (lengths .entry))) among i k) ×
+        (r ≤ mostSenders) ⌝ }
 {
     if (MOST_SENDERS <= i as usize) | (MOST_BLOCKS < k as usize) {
         return 0;

@@ -19,7 +19,8 @@ use Rattle.bench.specs.Calendar.{Act, proposing, voting, deciding, snapp
 use Rattle.bench.specs.Calls.{Core, acted}
 use Rattle.bench.specs.Acts.{Seen, usedFirst, usedOfGrade, propose, vote, makes, outAfter}
 use Rattle.bench.specs.Record.{Bench, agreementOf, withAgreement, withDecided, withParted}
-use Rattle.bench.specs.ByRecord.{fileLog, fileProposal, fileMessage, usedOf, seenOf, decidedLog, settled, snappedBy, changed, withMade, actedOf}
+use Rattle.bench.specs.ByRecord.{fileLog, fileProposal, fileMessage, usedOf, seenOf, decidedLog, settled, snappedBy, changed}
+use Rattle.bench.specs.ByRecord.{withMade, actedOf}
 use Rattle.bench.specs.Support.{agreementBefore}
 use Rattle.bench.proofs.Slots.{same-agreement}
 
@@ -54,7 +55,8 @@ module _ (b : Bench) where
   before-later (suc u) h = let e : suc u - 1 ≡ u = omega arith in rw e
 
 -- of the record, the agreements alone matter to both
-pub same-used : (s t : Core) (v : ℕ) (a : Act) → t .names ≡ s .names → t .counts ≡ s .counts → t .bench .even ≡ s .bench .even → t .bench .odd ≡ s .bench .odd
+pub same-used : (s t : Core) (v : ℕ) (a : Act) → t .names ≡ s .names → t .counts ≡ s .counts → t .bench .even ≡ s .bench .even
+    → t .bench .odd ≡ s .bench .odd
     → usedOf t v a ≡ usedOf s v a
 unfolding usedOf
 same-used s t zero a n c e o = refl
@@ -160,7 +162,8 @@ module _ (s : Core) where
       unfolding settled
       settled-stays f = rw (e, f)
 
-      pub settled-parts : isPrefix L (decidedLog s) ≡ false → settled s (some L) ≡ record { bench = withParted (s .bench); names = s .names; counts = s .counts }
+      pub settled-parts : isPrefix L (decidedLog s) ≡ false
+          → settled s (some L) ≡ record { bench = withParted (s .bench); names = s .names; counts = s .counts }
       unfolding settled
       settled-parts f = rw (e, f)
 
@@ -172,7 +175,8 @@ module _ (k : SnapshotNumber) (v : ℕ) (s : Core) where
   snapped-late h = rw (lt-leb v lastView h)
 
   pub snapped-view : v ≤ lastView
-      → snappedBy k v s ≡ record { bench = withAgreement (s .bench) v (withSnapshot k (agreementOf (s .bench) v)); names = s .names; counts = s .counts }
+      → snappedBy k v s ≡ record
+      { bench = withAgreement (s .bench) v (withSnapshot k (agreementOf (s .bench) v)); names = s .names; counts = s .counts }
   unfolding snappedBy
   snapped-view h = rw (le-leb v lastView h)
 

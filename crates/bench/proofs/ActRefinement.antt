@@ -93,24 +93,29 @@ module _ (p : History) (made : Option Meaning) (decided : Option Log) (beat : �
             since = subst (λ (z : ℕ). Since z q) (sym x) since-then;
           }
 
-      pub snapshot-filled : (k : SnapshotNumber) → beat ≡ snapshotBeat k v → Filled (withAgreement b v (withSnapshot k (agreementOf b v))) ns cs q
+      pub snapshot-filled : (k : SnapshotNumber) → beat ≡ snapshotBeat k v
+          → Filled (withAgreement b v (withSnapshot k (agreementOf b v))) ns cs q
       snapshot-filled k e =
           let old = h .views v low soon in
           let taken : some (member (agreementOf b v .marks .voters)) ≡ snapshotTook q k v =
           voters-same ∙ ap (snapshotOf v) (sym heard-now ∙ ap (heardAt (q .actions)) e) in
-          let left : (j : SnapshotNumber) → (beat ≡ snapshotBeat j v → ⊥) → snapshotIn (snapshotAt j (agreementOf b v .marks)) ≡ snapshotTook q j v =
+          let left : (j : SnapshotNumber) → (beat ≡ snapshotBeat j v → ⊥)
+          → snapshotIn (snapshotAt j (agreementOf b v .marks)) ≡ snapshotTook q j v =
           λ j d. old .snapshots j ∙ ap (snapshotOf v) (sym (heard-before (snapshotBeat j v) d)) in
-          snapped-filled (withSnapshot k (agreementOf b v)) (snapped-view k) (record { logs = same-logs k; snapshots = each k e taken left }) (elsewhere k e)
+          snapped-filled (withSnapshot k (agreementOf b v)) (snapped-view k)
+          (record { logs = same-logs k; snapshots = each k e taken left }) (elsewhere k e)
         where
           snapped-view : (k : SnapshotNumber) → withSnapshot k (agreementOf b v) .marks .view ≡ v
           snapped-view one = agreement-view b v
           snapped-view two = agreement-view b v
 
-          same-logs : (k : SnapshotNumber) (i : ℕ) → keptLog ns cs (logsPlace v) (withSnapshot k (agreementOf b v)) i ≡ heardLogs (q .heard) v i
+          same-logs : (k : SnapshotNumber) (i : ℕ)
+              → keptLog ns cs (logsPlace v) (withSnapshot k (agreementOf b v)) i ≡ heardLogs (q .heard) v i
           same-logs k i = kept-snapshot k ns cs (logsPlace v) (agreementOf b v) i ∙ h .views v low soon .logs i
 
           each : (k : SnapshotNumber) → beat ≡ snapshotBeat k v → some (member (agreementOf b v .marks .voters)) ≡ snapshotTook q k v
-              → ((j : SnapshotNumber) → (beat ≡ snapshotBeat j v → ⊥) → snapshotIn (snapshotAt j (agreementOf b v .marks)) ≡ snapshotTook q j v)
+              → ((j : SnapshotNumber) → (beat ≡ snapshotBeat j v → ⊥)
+              → snapshotIn (snapshotAt j (agreementOf b v .marks)) ≡ snapshotTook q j v)
               → (j : SnapshotNumber) → snapshotIn (snapshotAt j (withSnapshot k (agreementOf b v) .marks)) ≡ snapshotTook q j v
           each one e taken left one = taken
           each one e taken left two = left two (λ z. omega arith)

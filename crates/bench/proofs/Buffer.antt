@@ -1,6 +1,6 @@
--- The outgoing buffer after an Act, for every record, list, offer and buffer: a made message stands at its front, and the bytes past it keep their
--- values; where nothing is made, refused Acts included, all of them do. A made message always has room: it has 64 blocks at the most. Begin and
--- Receive have no buffer. Assumes nothing.
+-- The outgoing buffer after an Act, for every record, list, offer and buffer: a made message stands at its front, and the bytes past it
+-- keep their values; where nothing is made, refused Acts included, all of them do. A made message always has room: it has 64 blocks at the
+-- most. Begin and Receive have no buffer. Assumes nothing.
 use Prim.Native.Nat.{ℕ, zero, suc, _+_, _≤_, _<_}
 use native.Mathlib.Omega.{arith}
 use mathlib.Core.Bool.{false, not, and-eq-true-iff}
@@ -29,7 +29,8 @@ use Rattle.bench.specs.Calendar.{viewOf, placeIn, Act, proposing, voting
 use Rattle.bench.specs.Calls.{Reply, refused, done, took, acted, State, Core, coreOf, Step}
 use Rattle.bench.specs.Acts.{mayPropose, propose, vote, isView, inViews, makes, outAfter}
 use Rattle.bench.specs.Record.{agreementOf, proposalsOf, beatOf, tooLong, badProposer, anyPlace, beyondProposals, Bench}
-use Rattle.bench.specs.ByRecord.{refuse, stepBy, begun, beginRows, beginOf, fileMessage, taken, receiveRows, receiveOf, usedOf, seenOf, over, actedOf, actedNow, actRows, actOf}
+use Rattle.bench.specs.ByRecord.{refuse, stepBy, begun, beginRows, beginOf, fileMessage, taken, receiveRows, receiveOf, usedOf}
+use Rattle.bench.specs.ByRecord.{seenOf, over, actedOf, actedNow, actRows, actOf}
 use Rattle.bench.specs.Tested.{Tested}
 use Rattle.bench.proofs.TestedLaws.{within-limits, long-out}
 use Rattle.bench.proofs.Valid.{no-place}
@@ -48,7 +49,8 @@ madeIn (acted m) = m
 lock-short : (s : Core) (v : ℕ) (L : Log) → usedOf s v voting ≡ some L → length L ≤ mostBlocks
 unfolding usedOf
 lock-short s zero L e = subst (λ (M : Log). length M ≤ mostBlocks) (Option·some-injective [] L e) (omega arith)
-lock-short s (suc u) L e = by-short (s .names) (s .counts) (logsPlace u) (agreementOf (s .bench) u) (snapshotAt two (agreementOf (s .bench) u .marks)) L e
+lock-short s (suc u) L e =
+    by-short (s .names) (s .counts) (logsPlace u) (agreementOf (s .bench) u) (snapshotAt two (agreementOf (s .bench) u .marks)) L e
 
 -- the proposals of view v, in a record within its limits
 module _ (b : Bench) (e : beyondProposals (b .n) (b .proposals) ≡ false) where
@@ -79,7 +81,8 @@ module _ (own v : ℕ) where
       rw e (omega arith))
       (λ e. rw e tt)
 
-  vote-short : (choose : Log → Log) (o : Option Log) → ((L : Log) → o ≡ some L → length (choose L) ≤ mostBlocks) → Short (vote own v choose o)
+  vote-short : (choose : Log → Log) (o : Option Log) → ((L : Log) → o ≡ some L → length (choose L) ≤ mostBlocks)
+      → Short (vote own v choose o)
   unfolding vote
   vote-short choose none h = tt
   vote-short choose (some L) h = h L refl
@@ -146,7 +149,8 @@ module _ (s : State) (block : Block) (priority : ℕ) (out : List ℕ) where
   a = actAt (placeIn (beatOf (s .bench)))
 
   -- what holds of each refused Act, and of what is done
-  by-causes : (P : Step → Type 0) → ((k : ℕ) → P (refuse s out k)) → (Tested (coreOf s) out → P (stepBy s (actedNow (coreOf s) block priority out))) → P (actOf s block priority out)
+  by-causes : (P : Step → Type 0) → ((k : ℕ) → P (refuse s out k))
+      → (Tested (coreOf s) out → P (stepBy s (actedNow (coreOf s) block priority out))) → P (actOf s block priority out)
   unfolding actOf
   by-causes P f g =
       judged (refuse s out) (stepBy s (actedNow (coreOf s) block priority out)) P (actRows s out)
@@ -188,7 +192,8 @@ module _ (s : State) (block : Block) (priority : ℕ) (out : List ℕ) where
 -- What the buffer holds shows nowhere else: neither in what is made nor in what is held.
 module _ (s : State) (block : Block) (priority : ℕ) (out o : List ℕ) (e : ltb (length out) mostBytes ≡ ltb (length o) mostBytes) where
   same-but : {B : Type 0} (h : Step → B) → ((k : ℕ) → h (refuse s out k) ≡ h (refuse s o k))
-      → ((v : ℕ) (a : Act) → h (stepBy s (actedOf (over (coreOf s)) block priority out v a)) ≡ h (stepBy s (actedOf (over (coreOf s)) block priority o v a)))
+      → ((v : ℕ) (a : Act) → h (stepBy s (actedOf (over (coreOf s)) block priority out v a)) ≡ h
+      (stepBy s (actedOf (over (coreOf s)) block priority o v a)))
       → h (actOf s block priority out) ≡ h (actOf s block priority o)
   unfolding actOf
   same-but h d f =

@@ -20,7 +20,8 @@ use Rattle.bench.specs.Terms.{Seat}
 use Rattle.bench.specs.Layout.{mostBytes}
 use Rattle.bench.specs.Calendar.{lastBeat}
 use Rattle.bench.specs.Calls.{Call, begin, receive, act, done, took, Answer, openTo}
-use Rattle.bench.specs.History.{ActRecord, History, beatNow, notAbove, refusal, wordFor, file, fileMade, closed, madeBy, decidedBy, accepted, wordRead, acceptedAnswer, step, answer, causes}
+use Rattle.bench.specs.History.{ActRecord, History, beatNow, notAbove, refusal, wordFor, file, fileMade, closed, madeBy, decidedBy}
+use Rattle.bench.specs.History.{accepted, wordRead, acceptedAnswer, step, answer, causes}
 
 -- ---- a call is refused and changes nothing, or is accepted
 
@@ -57,7 +58,8 @@ begin-ok S p b e = let (late, (above, end)) = unrefused S p (begin b) e in (ltb-
 pub act-ok : (S : Seat) (p : History) (block : Block) (priority : ℕ) (out : List ℕ)
     → refusal S p (act block priority out) ≡ none → (mostBytes ≤ length out) × (p .gathering ≡ true)
 act-ok S p block priority out e =
-    let (short, (idle, end)) = unrefused S p (act block priority out) e in (ltb-false (length out) mostBytes short, not-false (p .gathering) idle)
+    let (short, (idle, end)) =
+    unrefused S p (act block priority out) e in (ltb-false (length out) mostBytes short, not-false (p .gathering) idle)
 
 -- a message that is taken
 pub record Receives (S : Seat) (p : History) (bytes : List ℕ) : Type 0 where
@@ -69,7 +71,8 @@ pub record Receives (S : Seat) (p : History) (bytes : List ℕ) : Type 0 where
 pub receive-ok : (S : Seat) (p : History) (bytes : List ℕ) → refusal S p (receive bytes) ≡ none → Receives S p bytes
 receive-ok S p bytes e =
     let (idle, rest) = unrefused S p (receive bytes) e in
-    let (reads, (shut, end)) = passes-each (readCauses (S .terms .n) bytes) (by 21 (not (openTo (meaningIn bytes) (beatNow p))) ∷ []) rest in
+    let (reads, (shut, end)) =
+    passes-each (readCauses (S .terms .n) bytes) (by 21 (not (openTo (meaningIn bytes) (beatNow p))) ∷ []) rest in
     record {
       message = meaningIn bytes;
       read = accepts (S .terms .n) bytes reads;
@@ -81,7 +84,8 @@ means-injective : (m k : Meaning) → means m ≡ means k → m ≡ k
 means-injective m k e = cc
 
 -- the message read was open to its kind
-pub receive-open : (S : Seat) (p : History) (bytes : List ℕ) (m : Meaning) → refusal S p (receive bytes) ≡ none → readOf (S .terms .n) bytes ≡ means m → openTo m (beatNow p) ≡ true
+pub receive-open : (S : Seat) (p : History) (bytes : List ℕ) (m : Meaning) → refusal S p (receive bytes) ≡ none
+    → readOf (S .terms .n) bytes ≡ means m → openTo m (beatNow p) ≡ true
 receive-open S p bytes m ok e =
     let r = receive-ok S p bytes ok in
     subst (λ (k : Meaning). openTo k (beatNow p) ≡ true) (means-injective (r .message) m (sym (r .read) ∙ e)) (r .inWindow)
@@ -90,12 +94,16 @@ pub receive-refusal : (S : Seat) (p : History) (bytes : List ℕ) (m : Meaning)
     → readOf (S .terms .n) bytes ≡ means m → p .gathering ≡ true → openTo m (beatNow p) ≡ true → refusal S p (receive bytes) ≡ none
 receive-refusal S p bytes m q g w =
     let (reads, same) = read-accepted (S .terms .n) bytes m q in
-    accepts-call S p (receive bytes)
-    (ap not g, passes-both (readCauses (S .terms .n) bytes) (by 21 (not (openTo (meaningIn bytes) (beatNow p))) ∷ []) reads (rw (same, w), tt))
+    accepts-call S p (receive bytes) (
+      ap not g,
+      passes-both (readCauses (S .terms .n) bytes) (by 21 (not (openTo (meaningIn bytes) (beatNow p))) ∷ []) reads
+          (rw (same, w), tt),
+    )
 
 -- ---- the word answered to a message taken
 
-pub taken-reply : (S : Seat) (p : History) (bytes : List ℕ) (m : Meaning) → refusal S p (receive bytes) ≡ none → readOf (S .terms .n) bytes ≡ means m
+pub taken-reply : (S : Seat) (p : History) (bytes : List ℕ) (m : Meaning) → refusal S p (receive bytes) ≡ none
+    → readOf (S .terms .n) bytes ≡ means m
     → answer S p (receive bytes) .reply ≡ took (wordFor p m)
 unfolding answer acceptedAnswer
 taken-reply S p bytes m ok r =
@@ -187,7 +195,8 @@ pub accepted-begin : (S : Seat) (p : History) (b : ℕ) → accepted S p (begin 
 unfolding accepted
 accepted-begin S p b = refl
 
-pub accepted-receive : (S : Seat) (p : History) (bytes : List ℕ) (m : Meaning) → readOf (S .terms .n) bytes ≡ means m → accepted S p (receive bytes) ≡ file p m
+pub accepted-receive : (S : Seat) (p : History) (bytes : List ℕ) (m : Meaning) → readOf (S .terms .n) bytes ≡ means m
+    → accepted S p (receive bytes) ≡ file p m
 unfolding accepted
 accepted-receive S p bytes m e = rw e
 

@@ -1,4 +1,4 @@
--- Open, Begin and Receive: the record does what the history says, answers what it answers, and stays refined to it. Assumes nothing.
+-- Open, Begin and Receive: the record does what the history says, answers what it answers, and refines it still. Assumes nothing.
 use Prim.Native.Nat.{ℕ, zero, suc, _+_, _-_, _^_, _≤_, _<_}
 use native.Mathlib.Omega.{arith}
 use mathlib.Core.Bool.{Bool, true, false, not, _||_, false≢true}
@@ -25,7 +25,8 @@ use Rattle.bench.specs.Layout.{decidedPlace, leastLent, Lent, shortLists
 use Rattle.bench.specs.Calendar.{lastBeat}
 use Rattle.bench.specs.Calls.{Call, begin, receive, bufferIn, took, Step, openTo, State, Core, coreOf}
 use Rattle.bench.specs.Causes.{beginCauses, receiveCauses}
-use Rattle.bench.specs.History.{History, fresh, orZero, beatNow, notAbove, refusal, wordFor, accepted, answer, acceptedAnswer, step, standIn}
+use Rattle.bench.specs.History.{History, fresh, orZero, beatNow, notAbove, refusal, wordFor, accepted, answer, acceptedAnswer, step}
+use Rattle.bench.specs.History.{standIn}
 use Rattle.bench.specs.Record.{freshBench, ofView, agreementOf, proposalsOf, beatOf, notAboveLast, idle, Bench}
 use Rattle.bench.specs.ByRecord.{refuse, stepBy, recordCauses, begun, beginOf, fileMessage, taken, receiveOf}
 use Rattle.bench.specs.Tested.{Usable}
@@ -40,13 +41,14 @@ use Rattle.bench.proofs.Filling.{holds-same, empty-holds, empty-proposa
 use Rattle.bench.proofs.LogRefinement.{Carries}
 use Rattle.bench.proofs.FilingRefinement.{file-refines}
 
--- What a call of the record has to do with the history's: the same answer; refined afterwards; and a refusal leaves record and lists.
+-- What a call of the record has to do with the history's: the same answer; it refines the history afterwards; and a refusal leaves record
+-- and lists.
 pub record Agrees (S : Seat) (s : State) (p : History) (c : Call) (r : Step) : Type 0 where
   pub answered : r .answer ≡ answer S p c
   pub refined : Refines S (coreOf (r .held)) (step S p c)
   pub left : (k : ℕ) → refusal S p c ≡ some k → r .held ≡ s
 
--- no record refined to a history is beyond its limits or has lists too short
+-- no record that refines a history is beyond its limits or has lists too short
 module _ {S : Seat} {s : Core} {p : History} (t : Refines S s p) where
   usable : Usable s
   usable =
@@ -81,7 +83,8 @@ module _ {S : Seat} {s : Core} {p : History} (t : Refines S s p) where
       go (suc b) e = omega arith
 
 -- A call whose own causes come to what the history's do: both refuse alike, or both accept.
-pub agrees-by : (S : Seat) (s : State) (p : History) (t : Refines S (coreOf s) p) (c : Call) (cs : List Cause) (x : Step) → refusal S p c ≡ firstFailure cs
+pub agrees-by : (S : Seat) (s : State) (p : History) (t : Refines S (coreOf s) p) (c : Call) (cs : List Cause) (x : Step)
+    → refusal S p c ≡ firstFailure cs
     → (firstFailure cs ≡ none → (x .answer ≡ acceptedAnswer S p c) × Refines S (coreOf (x .held)) (accepted S p c))
     → Agrees S s p c (judgedBy (recordCauses s ++ cs) (refuse s (bufferIn c)) x)
 unfolding step answer
@@ -120,10 +123,12 @@ module _ (S : Seat) (s : State) (p : History) (t : Refines S (coreOf s) p) (beat
     filled =
         record {
           views = λ v i o.
-              subst (λ (g : Agreement). Holds (s .lent .names) (s .lent .counts) g (accepted S p (begin beat)) v) (sym (begun-open (s .bench) beat v (omega arith)))
+              subst (λ (g : Agreement). Holds (s .lent .names) (s .lent .counts) g (accepted S p (begin beat)) v)
+              (sym (begun-open (s .bench) beat v (omega arith)))
               (holds-same (record { logs = λ j. refl; acts = λ k. refl }) (t .filled .views v i (omega arith)));
           proposals = λ v i o.
-              subst (λ (g : Proposals). HoldsProposals (s .lent .names) (s .lent .counts) g (accepted S p (begin beat)) v) (sym (begun-proposals-open (s .bench) beat v (omega arith)))
+              subst (λ (g : Proposals). HoldsProposals (s .lent .names) (s .lent .counts) g (accepted S p (begin beat)) v)
+              (sym (begun-proposals-open (s .bench) beat v (omega arith)))
               (t .filled .proposals v i (omega arith));
           since =
               record {
@@ -155,10 +160,12 @@ carries-read n bytes m e = record {
 
 module _ (S : Seat) (s : State) (p : History) (t : Refines S (coreOf s) p) (bytes : List ℕ) (typed : AllBelow 256 bytes) where
   taken-refines : p .gathering ≡ true → (m : Meaning) → readOf (S .terms .n) bytes ≡ means m → openTo m (beatOf (s .bench)) ≡ true
-      → (taken (fileMessage (coreOf s) bytes m) .answer ≡ acceptedAnswer S p (receive bytes)) × Refines S (taken (fileMessage (coreOf s) bytes m) .core) (accepted S p (receive bytes))
+      → (taken (fileMessage (coreOf s) bytes m) .answer ≡ acceptedAnswer S p (receive bytes)) × Refines S
+      (taken (fileMessage (coreOf s) bytes m) .core) (accepted S p (receive bytes))
   unfolding acceptedAnswer accepted
   taken-refines g m e w =
-      let x = file-refines S (coreOf s) p t bytes (started t g) m (read-writable (S .terms .n) bytes m typed e) (carries-read (S .terms .n) bytes m e) w in
+      let x = file-refines S (coreOf s) p t bytes (started t g) m (read-writable (S .terms .n) bytes m typed e)
+      (carries-read (S .terms .n) bytes m e) w in
       let word : took (fileMessage (coreOf s) bytes m .word) ≡ took (wordFor p m) = ap took (x .0) in
       (rw e (λ i. record { reply = word i; out = [] }), rw e (x .1))
 
@@ -166,21 +173,30 @@ module _ (S : Seat) (s : State) (p : History) (t : Refines S (coreOf s) p) (byte
   unfolding receiveOf refusal
   receive-agrees =
       let same = idle-same t in
-      agrees-by S s p t (receive bytes) (receiveCauses (idle (s .bench)) (s .bench .n) (beatOf (s .bench)) bytes) (stepBy s (taken (fileMessage (coreOf s) bytes (meaningIn bytes))))
+      agrees-by S s p t (receive bytes) (receiveCauses (idle (s .bench)) (s .bench .n) (beatOf (s .bench)) bytes)
+      (stepBy s (taken (fileMessage (coreOf s) bytes (meaningIn bytes))))
       (rw (same, t .n-is, beat-same t)) (λ e.
       let (i, rest) = passes (receiveCauses (idle (s .bench)) (s .bench .n) (beatOf (s .bench)) bytes) e in
-      let (reads, (shut, end)) = passes-each (readCauses (s .bench .n) bytes) (by 21 (not (openTo (meaningIn bytes) (beatOf (s .bench)))) ∷ []) rest in
+      let (reads, (shut, end)) =
+      passes-each (readCauses (s .bench .n) bytes) (by 21 (not (openTo (meaningIn bytes) (beatOf (s .bench)))) ∷ []) rest in
       taken-refines (not-false (p .gathering) (sym same ∙ i)) (meaningIn bytes) (accepts (S .terms .n) bytes (rw (← t .n-is) reads))
       (not-false (openTo (meaningIn bytes) (beatOf (s .bench))) shut))
 
 -- ---- Open
 
-pub open-refines : (T : Terms) (own : ℕ) (l : Lent) → outOfRange (T .n) own ≡ false → shortLists l ≡ false → AllBelow (2 ^ 64) (l .names) → AllBelow (2 ^ 16) (l .counts)
+pub open-refines : (T : Terms) (own : ℕ) (l : Lent) → outOfRange (T .n) own ≡ false → shortLists l ≡ false → AllBelow (2 ^ 64) (l .names)
+    → AllBelow (2 ^ 16) (l .counts)
     → Refines (seatOf T own) (record { bench = freshBench (T .n) own; names = l .names; counts = l .counts }) (fresh (seatOf T own))
 unfolding standIn agreementOf proposalsOf
 open-refines T own l r h names counts =
     let long = lists-roomy (l .names) (l .counts) h in
-    let since : Since 0 (fresh (seatOf T own)) = record { logs = λ m i. absurd (List·Memᴰ·not-nil i); proposals = λ m i. absurd (List·Memᴰ·not-nil i); acts = λ d i. absurd (List·Memᴰ·not-nil i) } in
+    let since : Since 0 (fresh (seatOf T own)) =
+    record {
+      logs = λ m i. absurd (List·Memᴰ·not-nil i);
+      proposals = λ m i. absurd (List·Memᴰ·not-nil i);
+      acts =
+          λ d i. absurd (List·Memᴰ·not-nil i);
+    } in
     record {
       n-is = refl;
       own-is = refl;
@@ -196,8 +212,10 @@ open-refines T own l r h names counts =
       gathering-is = refl;
       filled =
           record {
-            views = λ v i o. subst (λ (g : Agreement). Holds (l .names) (l .counts) g (fresh (seatOf T own)) v) (sym (fresh-agreement v)) (empty-holds since v (l .names) (l .counts) (omega arith));
-            proposals = λ v i o. subst (λ (g : Proposals). HoldsProposals (l .names) (l .counts) g (fresh (seatOf T own)) v) (sym (fresh-proposals v)) (empty-proposals-holds since v (l .names) (l .counts) (omega arith));
+            views = λ v i o. subst (λ (g : Agreement). Holds (l .names) (l .counts) g (fresh (seatOf T own)) v) (sym (fresh-agreement v))
+                (empty-holds since v (l .names) (l .counts) (omega arith));
+            proposals = λ v i o. subst (λ (g : Proposals). HoldsProposals (l .names) (l .counts) g (fresh (seatOf T own)) v)
+                (sym (fresh-proposals v)) (empty-proposals-holds since v (l .names) (l .counts) (omega arith));
             since = since;
           };
       stand-is = let e = log-empty (l .names) (l .counts) decidedPlace 0 (omega arith) in λ i. record { log = e i; parted = false };
@@ -205,7 +223,8 @@ open-refines T own l r h names counts =
     }
   where
     fresh-agreement : (v : ℕ) → agreementOf (freshBench (T .n) own) v ≡ emptyAgreement v
-    fresh-agreement v = in-slot (λ (g : Agreement). ofView g v ≡ emptyAgreement v) (freshBench (T .n) own) v (empty-of-view 0 v) (empty-of-view 0 v)
+    fresh-agreement v = in-slot (λ (g : Agreement). ofView g v ≡ emptyAgreement v) (freshBench (T .n) own) v (empty-of-view 0 v)
+        (empty-of-view 0 v)
 
     fresh-proposals : (v : ℕ) → proposalsOf (freshBench (T .n) own) v ≡ emptyProposals v
     fresh-proposals v = either (eqb 0 v) (λ e. rw e (ap emptyProposals (eqb-true 0 v e))) (λ e. rw e)

@@ -1,4 +1,4 @@
--- Filing a message, received or one's own, of either kind, keeps record and history refined. Assumes nothing.
+-- Filing a message, received or one's own, of either kind, keeps the record a refinement of the history. Assumes nothing.
 use Prim.Native.Nat.{ℕ, _+_, _-_, _≤_, _<_}
 use native.Mathlib.Omega.{arith}
 use mathlib.Core.Bool.{true, _&&_, and-eq-true-iff}
@@ -18,7 +18,8 @@ use Rattle.bench.proofs.LogRefinement.{Carries, log-word, log-refines}
 use Rattle.bench.proofs.ProposalRefinement.{proposal-word-refines, proposal-refines}
 
 -- within its window at the beat under way
-in-window : (first last beat next : ℕ) → beat ≡ next - 1 → 0 < next → (leb first beat && leb beat last) ≡ true → (first < next) × (next ≤ last + 1)
+in-window : (first last beat next : ℕ) → beat ≡ next - 1 → 0 < next → (leb first beat && leb beat last) ≡ true
+    → (first < next) × (next ≤ last + 1)
 in-window first last beat next e h w =
     let a = and-eq-true-iff (leb first beat) (leb beat last) .0 w in
     let x = leb-true first beat (a .0) in

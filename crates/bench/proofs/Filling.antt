@@ -1,5 +1,5 @@
--- What record and history hold of the open views stays the same: where the decided log is written, where the agreement of a view or the proposals
--- change with the history, and where an act is recorded that is of no snapshot. Assumes nothing.
+-- What record and history hold of the open views stays the same: where the decided log is written, where the agreement of a view or the
+-- proposals change with the history, and where an act is recorded that is of no snapshot. Assumes nothing.
 use Prim.Native.Nat.{ℕ, _+_, _≤_, _<_}
 use native.Mathlib.Decide.{ℕ-discrete}
 use native.Mathlib.Omega.{arith}
@@ -22,7 +22,8 @@ use Rattle.bench.specs.History.{History, heardAt, snapshotOf}
 use Rattle.bench.specs.Record.{agreementOf, withAgreement, proposalsOf, withProposals, Bench}
 use Rattle.bench.proofs.Valid.{ValidAgreement, ValidProposals, Valid}
 use Rattle.agreement.proofs.EmptyLaws.{empty-kept, empty-proposal-kept}
-use Rattle.bench.proofs.Slots.{agreement-valid, proposals-valid, changed-own, changed-across, changed-beside, parity-apart, proposals-own, proposals-beside}
+use Rattle.bench.proofs.Slots.{agreement-valid, proposals-valid, changed-own, changed-across, changed-beside, parity-apart}
+use Rattle.bench.proofs.Slots.{proposals-own, proposals-beside}
 use Rattle.bench.proofs.Refinement.{Holds, HoldsProposals, Since, Filled, no-act}
 
 -- ---- no two parts of the lists overlap
@@ -39,7 +40,8 @@ logs-apart u v h =
 -- ---- lists that changed elsewhere
 
 module _ {n b w : ℕ} {ns cs ns′ cs′ : List ℕ} (d : Elsewhere b w ns cs ns′ cs′) where
-  pub holds-elsewhere : (g : Agreement) (p : History) (v : ℕ) → n ≤ mostSenders → ValidAgreement n g → Apart (logsPlace v) span b w → Holds ns cs g p v → Holds ns′ cs′ g p v
+  pub holds-elsewhere : (g : Agreement) (p : History) (v : ℕ) → n ≤ mostSenders → ValidAgreement n g → Apart (logsPlace v) span b w
+      → Holds ns cs g p v → Holds ns′ cs′ g p v
   holds-elsewhere g p v m f far h = record {
     logs = λ i. kept-elsewhere d (logsPlace v) far g (λ j. f .sender j .short) i (λ e. f .sender i .no-voter (omega arith)) ∙ h .logs i;
     snapshots = h .snapshots;
@@ -55,8 +57,10 @@ module _ {n b w : ℕ} {ns cs ns′ cs′ : List ℕ} (d : Elsewhere b w ns cs n
 pub filled-decided : {b : Bench} {ns cs ns′ cs′ : List ℕ} {p : History} → Valid b → Elsewhere decidedPlace mostBlocks ns cs ns′ cs′
     → Filled b ns cs p → Filled b ns′ cs′ p
 filled-decided {b} {p = p} f d h = record {
-  views = λ v i o. let a = logs-low v in holds-elsewhere d (agreementOf b v) p v (f .few) (agreement-valid b v i f) (inl (omega arith)) (h .views v i o);
-  proposals = λ v i o. proposals-elsewhere d (proposalsOf b v) p v (f .few) (proposals-valid b v i f) (inl (omega arith)) (h .proposals v i o);
+  views = λ v i o. let a = logs-low v in
+      holds-elsewhere d (agreementOf b v) p v (f .few) (agreement-valid b v i f) (inl (omega arith)) (h .views v i o);
+  proposals = λ v i o. proposals-elsewhere d (proposalsOf b v) p v (f .few) (proposals-valid b v i f) (inl (omega arith))
+      (h .proposals v i o);
   since = h .since;
 }
 
@@ -81,7 +85,8 @@ module _ {next : ℕ} {p : History} (since : Since next p) (u : ℕ) where
       let none-at : (c : ℕ) → next ≤ c → none ≡ snapshotOf u (heardAt (p .actions) c) =
       λ c e. ap (snapshotOf u) (sym (no-act (p .actions) c (λ d i. let k = since .acts d i in omega arith))) in
       record {
-        logs = λ i. empty-kept ns cs (logsPlace u) u i ∙ sym (heard-no-view (p .heard) u i (λ m j e. let k = since .logs m j in omega arith));
+        logs = λ i. empty-kept ns cs (logsPlace u) u i
+            ∙ sym (heard-no-view (p .heard) u i (λ m j e. let k = since .logs m j in omega arith));
         snapshots = λ (k : SnapshotNumber). elim k [
           | one ↦ none-at (snapshotBeat one u) (omega arith)
           | two ↦ none-at (snapshotBeat two u) (omega arith)
@@ -95,23 +100,28 @@ module _ {next : ℕ} {p : History} (since : Since next p) (u : ℕ) where
 
 -- ---- the agreement of an open view changes, and the history with it
 
-module _ {b : Bench} {ns cs ns′ cs′ : List ℕ} {p q : History} (f : Valid b) (h : Filled b ns cs p) (v : ℕ) (late : inputBeat v < b .next) (soon : b .next ≤ closeBeat v + 1)
+module _ {b : Bench} {ns cs ns′ cs′ : List ℕ} {p q : History} (f : Valid b) (h : Filled b ns cs p) (v : ℕ) (late : inputBeat v < b .next)
+    (soon : b .next ≤ closeBeat v + 1)
     (lists : Elsewhere (logsPlace v) span ns cs ns′ cs′) (g : Agreement) (view : g .marks .view ≡ v)
     (here : Holds ns′ cs′ g q v) (there : (u : ℕ) → (u ≡ v → ⊥) → u ≤ lastView → SameView p q u) where
   -- another view of the parity is shut, or its time has not come
-  beside-holds : (u : ℕ) → (u ≡ v → ⊥) → isEven u ≡ isEven v → u ≤ lastView → b .next ≤ closeBeat u + 1 → Holds ns′ cs′ (emptyAgreement u) q u
+  beside-holds : (u : ℕ) → (u ≡ v → ⊥) → isEven u ≡ isEven v → u ≤ lastView → b .next ≤ closeBeat u + 1
+      → Holds ns′ cs′ (emptyAgreement u) q u
   beside-holds u d e i o = elim (parity-apart u v e d) [
     | inl y ↦ absurd (omega arith)
     | inr y ↦ holds-same (there u d i) (empty-holds (h .since) u ns′ cs′ (omega arith))
   ]
 
-  across-holds : (u : ℕ) → (u ≡ v → ⊥) → (isEven u ≡ isEven v → ⊥) → u ≤ lastView → b .next ≤ closeBeat u + 1 → Holds ns′ cs′ (agreementOf b u) q u
+  across-holds : (u : ℕ) → (u ≡ v → ⊥) → (isEven u ≡ isEven v → ⊥) → u ≤ lastView → b .next ≤ closeBeat u + 1
+      → Holds ns′ cs′ (agreementOf b u) q u
   across-holds u d e i o =
-      holds-same (there u d i) (holds-elsewhere lists (agreementOf b u) p u (f .few) (agreement-valid b u i f) (logs-apart u v e) (h .views u i o))
+      holds-same (there u d i)
+      (holds-elsewhere lists (agreementOf b u) p u (f .few) (agreement-valid b u i f) (logs-apart u v e) (h .views u i o))
 
   pub agreement-views : (u : ℕ) → u ≤ lastView → b .next ≤ closeBeat u + 1 → Holds ns′ cs′ (agreementOf (withAgreement b v g) u) q u
   agreement-views u i o = elim (ℕ-discrete u v) [
-    | yes e ↦ subst (λ (x : ℕ). Holds ns′ cs′ (agreementOf (withAgreement b v g) x) q x) (sym e) (subst (λ (a : Agreement). Holds ns′ cs′ a q v) (sym (changed-own b v g view)) here)
+    | yes e ↦ subst (λ (x : ℕ). Holds ns′ cs′ (agreementOf (withAgreement b v g) x) q x) (sym e)
+        (subst (λ (a : Agreement). Holds ns′ cs′ a q v) (sym (changed-own b v g view)) here)
     | no d ↦ elim (Bool-discrete (isEven u) (isEven v)) [
       | yes e ↦ subst (λ (a : Agreement). Holds ns′ cs′ a q u) (sym (changed-beside b v g view u d e)) (beside-holds u d e i o)
       | no e ↦ subst (λ (a : Agreement). Holds ns′ cs′ a q u) (sym (changed-across b v g u e)) (across-holds u d e i o)
@@ -120,7 +130,8 @@ module _ {b : Bench} {ns cs ns′ cs′ : List ℕ} {p q : History} (f : Valid b
 
 -- ---- the proposals change
 
-pub proposals-views : {b : Bench} {ns cs : List ℕ} {p : History} (ns′ cs′ : List ℕ) (q : History) → Filled b ns cs p → (v : ℕ) → viewBeat v < b .next → b .next ≤ inputBeat v + 1
+pub proposals-views : {b : Bench} {ns cs : List ℕ} {p : History} (ns′ cs′ : List ℕ) (q : History) → Filled b ns cs p → (v : ℕ)
+    → viewBeat v < b .next → b .next ≤ inputBeat v + 1
     → (g : Proposals) → g .marks .view ≡ v → HoldsProposals ns′ cs′ g q v
     → ((u : ℕ) → (u ≡ v → ⊥) → (i : ℕ) → heardProposals (q .proposals) u i ≡ heardProposals (p .proposals) u i)
     → (u : ℕ) → b .next ≤ inputBeat u + 1 → HoldsProposals ns′ cs′ (proposalsOf (withProposals b g) u) q u

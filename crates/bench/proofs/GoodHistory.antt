@@ -20,7 +20,8 @@ use Rattle.bench.specs.Terms.{Seat, weightOf}
 use Rattle.bench.specs.Calendar.{viewOf, placeIn, Act, proposing, voting, deciding, snapping, actAt}
 use Rattle.bench.specs.Calls.{Call, begin, receive, act, Typed, AllTyped}
 use Rattle.bench.specs.Acts.{mayPropose, propose, vote, isView, inViews, makes, decides}
-use Rattle.bench.specs.History.{History, fresh, beatNow, refusal, file, gradeAt, usedAt, seenAt, madeBy, decidedBy, fileRead, fileMade, closed, accepted, orAccepted, step, afterFrom, after}
+use Rattle.bench.specs.History.{History, fresh, beatNow, refusal, file, gradeAt, usedAt, seenAt, madeBy, decidedBy, fileRead}
+use Rattle.bench.specs.History.{fileMade, closed, accepted, orAccepted, step, afterFrom, after}
 
 -- every message taken or made is within the limits
 pub record GoodHistory (S : Seat) (p : History) : Type 0 where
@@ -82,7 +83,8 @@ GoodMade S (some m) = WritableMeaning (S .terms .n) m
 
 module _ (S : Seat) (block : Block) (priority : ℕ)
     (lo : S .own < S .terms .n) (ln : block .name < 2 ^ 64) (lc : block .count < 2 ^ 16) (lp : priority < 2 ^ 64) where
-  propose-good : (v : ℕ) (o : Option Log) → v ≤ lastView → ((L : Log) → o ≡ some L → GoodLog L) → GoodMade S (propose (S .own) v block priority o)
+  propose-good : (v : ℕ) (o : Option Log) → v ≤ lastView → ((L : Log) → o ≡ some L → GoodLog L)
+      → GoodMade S (propose (S .own) v block priority o)
   unfolding propose
   propose-good v none lv c = tt
   propose-good v (some C) lv c =
@@ -106,10 +108,12 @@ module _ (S : Seat) (block : Block) (priority : ℕ)
     makes-good : (v : ℕ) (a : Act) → GoodMade S (makes (S .own) v block priority (seenAt S p v a) a)
     unfolding makes
     makes-good v proposing =
-        inViews-good v (propose (S .own) v block priority (usedAt S p v proposing)) (λ lv. propose-good v (usedAt S p v proposing) lv (used-good S p g v proposing))
+        inViews-good v (propose (S .own) v block priority (usedAt S p v proposing))
+        (λ lv. propose-good v (usedAt S p v proposing) lv (used-good S p g v proposing))
     makes-good v voting =
         inViews-good v (vote (S .own) v (voteAmong (S .terms .n) (heardProposals (p .proposals) v)) (usedAt S p v voting))
-        (λ lv. votes-good v (voteAmong (S .terms .n) (heardProposals (p .proposals) v)) (usedAt S p v voting) lv (λ L e. vote-good S p g v L (used-good S p g v voting L e)))
+        (λ lv. votes-good v (voteAmong (S .terms .n) (heardProposals (p .proposals) v)) (usedAt S p v voting) lv
+        (λ L e. vote-good S p g v L (used-good S p g v voting L e)))
     makes-good v deciding = tt
     makes-good v snapping = tt
 
@@ -161,7 +165,8 @@ fileMade-good S p (some m) w g = file-good S p m w g
 good-accepted : (S : Seat) (p : History) (c : Call) → S .own < S .terms .n → Typed c → GoodHistory S p → GoodHistory S (accepted S p c)
 unfolding accepted
 good-accepted S p (begin b) lo t g = record { heard = g .heard; proposals = g .proposals; priorities = g .priorities }
-good-accepted S p (receive bytes) lo t g = fileRead-good S p (readOf (S .terms .n) bytes) (λ m e. read-writable (S .terms .n) bytes m (t .0) e) g
+good-accepted S p (receive bytes) lo t g =
+    fileRead-good S p (readOf (S .terms .n) bytes) (λ m e. read-writable (S .terms .n) bytes m (t .0) e) g
 good-accepted S p (act block priority out) lo t g =
     fileMade-good S (closed p (madeBy S p block priority) (decidedBy S p)) (madeBy S p block priority)
     (made S block priority lo (t .0) (t .1) (t .2) p g)
@@ -176,7 +181,8 @@ step-good S p c lo t g = go (refusal S p c)
     go none = good-accepted S p c lo t g
     go (some k) = g
 
-from-good : (S : Seat) (p : History) (cs : List Call) → S .own < S .terms .n → AllTyped cs → GoodHistory S p → GoodHistory S (afterFrom S p cs)
+from-good : (S : Seat) (p : History) (cs : List Call) → S .own < S .terms .n → AllTyped cs → GoodHistory S p
+    → GoodHistory S (afterFrom S p cs)
 unfolding afterFrom
 from-good S p [] lo t g = g
 from-good S p (c ∷ cs) lo t g = from-good S (step S p c) cs lo (t .1) (step-good S p c lo (t .0) g)

@@ -65,7 +65,8 @@ contentOr d (some m) = said m
 same-log : (h k : Content) → some (logMessage h) ≡ some (logMessage k) → h ≡ k
 same-log h k e = ap (contentOr h) e
 
-propose-no-log : (own v : ℕ) (block : Block) (priority : ℕ) (C : Option Log) (h : Content) → propose own v block priority C ≡ some (logMessage h) → ⊥
+propose-no-log : (own v : ℕ) (block : Block) (priority : ℕ) (C : Option Log) (h : Content)
+    → propose own v block priority C ≡ some (logMessage h) → ⊥
 unfolding propose meaning-kind
 propose-no-log own v block priority none h e = Option·none-ne-some _ e
 propose-no-log own v block priority (some C) h e =
@@ -95,12 +96,14 @@ makes-vote S p block priority v (suc zero) h ev er e =
       range = omega arith;
       locked = s .0;
       isLock = ap (λ (u : ℕ). usedAt S p u voting) hv ∙ s .1;
-      voted = ap (λ (k : Content). k .log) (s .2) ∙ ap (λ (u : ℕ). voteAmong (S .terms .n) (heardProposals (p .proposals) u) (s .0)) (sym hv);
+      voted = ap (λ (k : Content). k .log) (s .2)
+          ∙ ap (λ (u : ℕ). voteAmong (S .terms .n) (heardProposals (p .proposals) u) (s .0)) (sym hv);
     }
 makes-vote S p block priority v (suc (suc zero)) h ev er e = absurd (Option·none-ne-some _ e)
 makes-vote S p block priority v (suc (suc (suc r))) h ev er e = absurd (Option·none-ne-some _ e)
 
-pub made-vote : (S : Seat) (p : History) (block : Block) (priority : ℕ) (h : Content) → madeBy S p block priority ≡ some (logMessage h) → Vote S p h
+pub made-vote : (S : Seat) (p : History) (block : Block) (priority : ℕ) (h : Content) → madeBy S p block priority ≡ some (logMessage h)
+    → Vote S p h
 unfolding madeBy
 made-vote S p block priority h e = makes-vote S p block priority (viewOf (beatNow p)) (placeIn (beatNow p)) h refl refl e
 

@@ -13,7 +13,8 @@ use Rattle.message.proofs.TestLaws.{or-true}
 use Rattle.bench.specs.Terms.{Seat}
 use Rattle.bench.specs.Calls.{Call}
 use Rattle.bench.specs.Acts.{Stand, settle}
-use Rattle.bench.specs.History.{History, ActRecord, fresh, refusal, accepted, step, answer, afterFrom, after, answersFrom, answersTo, heardAt, actedAt, awake, standIn, stand}
+use Rattle.bench.specs.History.{History, ActRecord, fresh, refusal, accepted, step, answer, afterFrom, after, answersFrom, answersTo}
+use Rattle.bench.specs.History.{heardAt, actedAt, awake, standIn, stand}
 use Rattle.bench.proofs.CallLaws.{step-cases, step-ok}
 
 module _ (S : Seat) where
@@ -115,7 +116,8 @@ mem-actedAt (x ∷ xs) d b i e = elim (List·Memᴰ·cases-cons i) [
   | inr j ↦ rw (mem-actedAt xs d b j e) (or-true (eqb (x .beat) b))
 ]
 
-pub heardAt-mem : (ds : List ActRecord) (b : ℕ) (l : List Content) → heardAt ds b ≡ some l → (d : ActRecord) × Mem d ds × (d .beat ≡ b) × (d .heard ≡ l)
+pub heardAt-mem : (ds : List ActRecord) (b : ℕ) (l : List Content) → heardAt ds b ≡ some l
+    → (d : ActRecord) × Mem d ds × (d .beat ≡ b) × (d .heard ≡ l)
 unfolding heardAt
 heardAt-mem [] b l e = absurd (Option·none-ne-some _ e)
 heardAt-mem (d ∷ ds) b l e = go (eqb (d .beat) b) refl e (heardAt-mem ds b l)

@@ -22,7 +22,7 @@ pub mod NoEightNine
 pub mod Replies
 -- An act, case by case:
 pub mod ActLaws
--- The tie between record and history, kept by every call:
+-- The refinement between record and history, kept by every call:
 pub mod Refinement
 pub mod Filling
 pub mod LogRefinement

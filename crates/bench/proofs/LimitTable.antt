@@ -1,4 +1,5 @@
--- Refusal 9, cause by cause, on both sides of each limit; and odd records that no cause listed refuses: one table, computed. Assumes nothing.
+-- Refusal 9, cause by cause, on both sides of each limit; and odd records that no cause listed refuses: one table, computed. Assumes
+-- nothing.
 use Prim.Native.Nat.{ℕ, _^_, _-_}
 use mathlib.Core.Bool.{Bool, true, false}
 use mathlib.Core.List.{List, [], _∷_, map}
@@ -39,7 +40,14 @@ plain n own next decided = record {
 -- by view, lengths, V, E, snapshots one and two
 abbrev pub agreement : ℕ → List ℕ → ℕ → ℕ → ℕ → ℕ → Agreement
 agreement v lengths voters equivocators one two = record {
-  marks = record { view = v; voters = voters; equivocators = equivocators; one = record { senders = one; taken = 0 }; two = record { senders = two; taken = 0 } };
+  marks = record {
+    view = v;
+    voters = voters;
+    equivocators = equivocators;
+    one = record { senders = one; taken = 0 };
+    two =
+        record { senders = two; taken = 0 };
+  };
   lengths = lengths;
 }
 
@@ -81,14 +89,28 @@ sets voters equivocators one two = agreement 0 (long 0 0) voters equivocators on
 -- no length, and both snapshots said to be taken: these
 abbrev taken : ℕ → ℕ → Agreement
 taken one two = record {
-  marks = record { view = 0; voters = nobody; equivocators = nobody; one = record { senders = one; taken = 1 }; two = record { senders = two; taken = 1 } };
+  marks = record {
+    view = 0;
+    voters = nobody;
+    equivocators = nobody;
+    one = record { senders = one; taken = 1 };
+    two =
+        record { senders = two; taken = 1 };
+  };
   lengths = long 0 0;
 }
 
 -- nothing filed, and these flags of the snapshots
 abbrev saying : ℕ → ℕ → Agreement
 saying one two = record {
-  marks = record { view = 0; voters = nobody; equivocators = nobody; one = record { senders = nobody; taken = one }; two = record { senders = nobody; taken = two } };
+  marks = record {
+    view = 0;
+    voters = nobody;
+    equivocators = nobody;
+    one = record { senders = nobody; taken = one };
+    two =
+        record { senders = nobody; taken = two };
+  };
   lengths = long 0 0;
 }
 
@@ -171,7 +193,7 @@ rows =
     ∷ valid (odd (sets nobody (only 4) nobody nobody))
     ∷ bad (even (sets nobody (only 5) nobody nobody))
     ∷ bad (odd (sets nobody (only 31) nobody nobody))
-    -- the snapshots; such a sender is outside S, or V or E names it too, so this is no-eight-or-nine the only cause;
+    -- the snapshots; such a sender is outside S, or V or E names it too, so this is never the only cause;
     ∷ valid (even (sets (only 4) nobody (only 4) (only 4)))
     ∷ bad (even (sets nobody nobody (only 5) nobody))
     ∷ bad (odd (sets (only 5) nobody (only 5) nobody))
@@ -224,11 +246,19 @@ rows =
       parted = 65535;
     })
     -- a view to come, and in the other parity's slot; ..
-    ∷ valid (parts (agreement 7 (long 0 1) (only 0) nobody nobody nobody) (agreement 8 (long 0 1) (only 0) nobody nobody nobody) (emptyProposals 9))
+    ∷ valid (parts (agreement 7 (long 0 1) (only 0) nobody nobody nobody) (agreement 8 (long 0 1) (only 0) nobody nobody nobody)
+    (emptyProposals 9))
     -- a proposal set aside that is not filed; a snapshot said to be taken, of nobody; a length of nobody's
     ∷ valid (offered (proposals 9 (long 31 1) nobody (only 0)))
     ∷ valid (even (record {
-      marks = record { view = 0; voters = nobody; equivocators = nobody; one = record { senders = nobody; taken = 1 }; two = record { senders = nobody; taken = 1 } };
+      marks = record {
+        view = 0;
+        voters = nobody;
+        equivocators = nobody;
+        one = record { senders = nobody; taken = 1 };
+        two =
+            record { senders = nobody; taken = 1 };
+      };
       lengths = long 4 64;
     }))
     ∷ []

@@ -50,11 +50,18 @@ module _ {b w : ℕ} {ns cs ns′ cs′ : List ℕ} (d : Elsewhere b w ns cs ns�
       let c = d .count-length in
       let n = r .names in
       let m = r .counts in
-      record { names = omega arith; counts = omega arith; name-bound = d .name-bound (r .name-bound); count-bound = d .count-bound (r .count-bound) }
+      record {
+        names = omega arith;
+        counts = omega arith;
+        name-bound = d .name-bound (r .name-bound);
+        count-bound =
+            d .count-bound (r .count-bound);
+      }
 
 -- ---- a LOG
 
-module _ (S : Seat) (s : Core) (p : History) (t : Refines S s p) (bytes : List ℕ) (m : Content) (good : Writable (S .terms .n) m) (c : Carries bytes (m .log))
+module _ (S : Seat) (s : Core) (p : History) (t : Refines S s p) (bytes : List ℕ) (m : Content) (good : Writable (S .terms .n) m)
+    (c : Carries bytes (m .log))
     (late : inputBeat (m .view) < s .bench .next) (soon : s .bench .next ≤ closeBeat (m .view) + 1) where
   abbrev b : Bench
   b = s .bench
@@ -102,7 +109,8 @@ module _ (S : Seat) (s : Core) (p : History) (t : Refines S s p) (bytes : List �
   unfolding file
   holds-now = record {
     logs = λ j. elim (ℕ-discrete j (m .sender)) [
-      | yes x ↦ subst (λ (i : ℕ). keptLog (r .names) (r .counts) (logsPlace (m .view)) (r .agreement) i ≡ heardLogs (m ∷ p .heard) (m .view) i) (sym x) own-log
+      | yes x ↦ subst (λ (i : ℕ). keptLog (r .names) (r .counts) (logsPlace (m .view)) (r .agreement) i ≡ heardLogs (m ∷ p .heard)
+          (m .view) i) (sym x) own-log
       | no x ↦
           file-apart g (s .names) (s .counts) (logsPlace (m .view)) bytes (m .sender) fits j x (valid-here .sender j .short)
           ∙ before .logs j
@@ -117,7 +125,8 @@ module _ (S : Seat) (s : Core) (p : History) (t : Refines S s p) (bytes : List �
       rest : SameRest g (r .agreement)
       rest = file-rest g (s .names) (s .counts) (logsPlace (m .view)) bytes (m .sender)
 
-      own-log : keptLog (r .names) (r .counts) (logsPlace (m .view)) (r .agreement) (m .sender) ≡ heardLogs (m ∷ p .heard) (m .view) (m .sender)
+      own-log : keptLog (r .names) (r .counts) (logsPlace (m .view)) (r .agreement) (m .sender) ≡ heardLogs (m ∷ p .heard) (m .view)
+          (m .sender)
       own-log =
           let e = before .logs (m .sender) in
           let f = c .log in
@@ -141,11 +150,13 @@ module _ (S : Seat) (s : Core) (p : History) (t : Refines S s p) (bytes : List �
       let e = agreement-rest b (m .view) (r .agreement) in
       let x = e .next in
       record {
-        views = λ u i o. agreement-views (t .valid) (t .filled) (m .view) late soon elsewhere (r .agreement) view-now holds-now same-there u i (omega arith);
+        views = λ u i o. agreement-views (t .valid) (t .filled) (m .view) late soon elsewhere
+            (r .agreement) view-now holds-now same-there u i (omega arith);
         proposals = λ u i o.
             subst (λ (z : Proposals). HoldsProposals (r .names) (r .counts) z q u) (sym (changed-proposals b (m .view) (r .agreement) u))
             (let z = logs-low (m .view) in
-            proposals-elsewhere elsewhere (proposalsOf b u) p u (t .valid .few) (proposals-valid b u i (t .valid)) (inr (omega arith)) (t .filled .proposals u i (omega arith)));
+            proposals-elsewhere elsewhere (proposalsOf b u) p u (t .valid .few) (proposals-valid b u i (t .valid)) (inr (omega arith))
+            (t .filled .proposals u i (omega arith)));
         since =
             record {
               logs = λ h i. elim (List·Memᴰ·cases-cons i) [
@@ -157,7 +168,7 @@ module _ (S : Seat) (s : Core) (p : History) (t : Refines S s p) (bytes : List �
             };
       }
 
-  -- record and history are refined after it
+  -- the record refines the history after it
   pub log-refines : Refines S (record { bench = b′; names = r .names; counts = r .counts }) q
   unfolding file
   log-refines =
@@ -166,17 +177,21 @@ module _ (S : Seat) (s : Core) (p : History) (t : Refines S s p) (bytes : List �
       let y = e .parted in
       let z = logs-low (m .view) in
       let h = t .valid .decided in
-      let same : logAt (r .names) (r .counts) decidedPlace (b .decided) ≡ decidedLog s = elsewhere .logs decidedPlace (b .decided) (inr (omega arith)) in
+      let same : logAt (r .names) (r .counts) decidedPlace (b .decided) ≡ decidedLog s =
+      elsewhere .logs decidedPlace (b .decided) (inr (omega arith)) in
       let nx = e .next in
       let ga = e .gathering in
       record {
         n-is = e .n ∙ t .n-is;
         own-is = e .own ∙ t .own-is;
-        valid = with-agreement-valid b (t .valid) (m .view) (r .agreement) (file-valid (b .n) g valid-here (s .names) (s .counts) (logsPlace (m .view)) bytes (m .sender) (let a = good .sender in let d = t .n-is in omega arith));
+        valid = with-agreement-valid b (t .valid) (m .view) (r .agreement)
+            (file-valid (b .n) g valid-here (s .names) (s .counts) (logsPlace (m .view)) bytes (m .sender)
+            (let a = good .sender in let d = t .n-is in omega arith));
         roomy = roomy-elsewhere elsewhere (t .roomy);
         last-is = ap lastOf nx ∙ t .last-is;
         gathering-is = (λ i. not (not (isYes (ga i)) || eqb (nx i) 0)) ∙ t .gathering-is;
         filled = filled-now;
-        stand-is = (λ i. record { log = logAt (r .names) (r .counts) decidedPlace (x i); parted = isYes (y i) }) ∙ (λ i. record { log = same i; parted = isYes (b .parted) }) ∙ t .stand-is;
+        stand-is = (λ i. record { log = logAt (r .names) (r .counts) decidedPlace (x i); parted = isYes (y i) })
+            ∙ (λ i. record { log = same i; parted = isYes (b .parted) }) ∙ t .stand-is;
         good = file-good S p (logMessage m) good (t .good);
       }

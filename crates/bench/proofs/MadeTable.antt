@@ -21,7 +21,8 @@ use Rattle.bench.specs.Layout.{logsPlace, leastLent}
 use Rattle.bench.specs.Calls.{acted, State, Step}
 use Rattle.bench.specs.Acts.{propose, vote, makes}
 use Rattle.bench.specs.Record.{agreementOf, proposalsOf, withAgreement, anyPlace, beyondAgreement, beyondProposals, beyond}
-use Rattle.bench.specs.ByRecord.{keptAgreement, keptProposals, beginOf, fileMessage, usedOf, settled, snappedBy, changed, actedOf, actOf}
+use Rattle.bench.specs.ByRecord.{keptAgreement, keptProposals, beginOf, fileMessage, usedOf, settled, snappedBy, changed, actedOf}
+use Rattle.bench.specs.ByRecord.{actOf}
 use Rattle.bench.proofs.LimitTable.{nobody, only, long}
 use Rattle.bench.proofs.Sample.{alone}
 
@@ -38,7 +39,14 @@ ready beat L = record {
         gathering = 1;
         even =
             record {
-              marks = record { view = 258; voters = only 0; equivocators = nobody; one = record { senders = only 0; taken = 1 }; two = record { senders = only 0; taken = 1 } };
+              marks = record {
+                view = 258;
+                voters = only 0;
+                equivocators = nobody;
+                one = record { senders = only 0; taken = 1 };
+                two =
+                    record { senders = only 0; taken = 1 };
+              };
               lengths = long 0 (length L);
             };
         odd = emptyAgreement 259;
@@ -86,7 +94,8 @@ rows =
     ((2 ∷ 3 ∷ 2 ∷ 0 ∷ 3 ∷ 1 ∷ 0 ∷ 0 ∷ 9 ∷ 8 ∷ replicate 6 0)
     ++ ((7 ∷ 1 ∷ replicate 6 0) ++ ((5 ∷ 2 ∷ replicate 6 0) ++ ((2 ∷ 0 ∷ 3 ∷ 1 ∷ []) ++ replicate 621 7))))
     -- a LOG, of the lock
-    ∷ row (offers (ready 1037 one)) ((1 ∷ 3 ∷ 1 ∷ 0 ∷ 3 ∷ 1 ∷ 0 ∷ 0 ∷ replicate 8 0) ++ ((7 ∷ 1 ∷ replicate 6 0) ++ ((2 ∷ 0 ∷ []) ++ replicate 631 7)))
+    ∷ row (offers (ready 1037 one))
+    ((1 ∷ 3 ∷ 1 ∷ 0 ∷ 3 ∷ 1 ∷ 0 ∷ 0 ∷ replicate 8 0) ++ ((7 ∷ 1 ∷ replicate 6 0) ++ ((2 ∷ 0 ∷ []) ++ replicate 631 7)))
     -- the first PROPOSAL of a bench alone; its LOG of the empty log, where nothing is proposed
     ∷ row (actOf (beginOf alone 0 .held) (block 5 3) 9 (replicate 657 7))
     ((1 ∷ 0 ∷ 2 ∷ replicate 5 0) ++ ((9 ∷ replicate 7 0) ++ ((5 ∷ replicate 7 0) ++ ((3 ∷ 0 ∷ []) ++ replicate 631 7))))
@@ -102,9 +111,12 @@ rows =
 
 pub bytes-hold : map (λ (r : Row). r .step .answer .out) rows ≡ map (λ (r : Row). r .out) rows
 unfolding
-    judgedBy firstFailure beginOf keptAgreement keptProposals actOf actedOf changed snappedBy settled usedOf agreementOf proposalsOf withAgreement
-    anyPlace beyondAgreement beyondProposals beyond propose vote makes voteAmong keptProposal bestOf gradeAmong overlong maySupport supports hasGrade under
-    prefixes candidates longer longestOf longest weigh member adding removing logAt messageBytes bytesOf part put bytesFor bytesForEach isPrefix inStep namesOf countsOf
+    judgedBy firstFailure beginOf keptAgreement keptProposals actOf actedOf changed snappedBy settled usedOf agreementOf proposalsOf
+    withAgreement
+    anyPlace beyondAgreement beyondProposals beyond propose vote makes voteAmong keptProposal bestOf gradeAmong overlong maySupport supports
+    hasGrade under
+    prefixes candidates longer longestOf longest weigh member adding removing logAt messageBytes bytesOf part put bytesFor bytesForEach
+    isPrefix inStep namesOf countsOf
 bytes-hold = refl
 
 -- ---- 64 blocks at the most
@@ -135,8 +147,10 @@ limits =
 
 pub limits-hold : map (λ (r : Limit). r .step .answer .reply) limits ≡ map (λ (r : Limit). acted (r .made)) limits
 unfolding
-    judgedBy firstFailure actOf actedOf changed settled usedOf agreementOf proposalsOf anyPlace beyondAgreement beyondProposals beyond propose vote makes
-    voteAmong keptProposal bestOf gradeAmong overlong maySupport supports hasGrade under prefixes candidates longer longestOf longest weigh member adding removing logAt part put
+    judgedBy firstFailure actOf actedOf changed settled usedOf agreementOf proposalsOf anyPlace beyondAgreement beyondProposals beyond
+    propose vote makes
+    voteAmong keptProposal bestOf gradeAmong overlong maySupport supports hasGrade under prefixes candidates longer longestOf longest weigh
+    member adding removing logAt part put
     isPrefix inStep namesOf countsOf
 limits-hold = refl
 
@@ -144,14 +158,18 @@ limits-hold = refl
 pub longest-out : offers (ready 1036 (many 63)) .answer .out
     ≡ bytesOf (proposalMessage (record { sender = 3; view = 259; log = many 63 ++ (block 517 259 ∷ []) }) 2057) ++ (7 ∷ [])
 unfolding
-    judgedBy firstFailure actOf actedOf changed settled usedOf agreementOf proposalsOf anyPlace beyondAgreement beyondProposals beyond propose makes gradeAmong overlong
-    maySupport supports hasGrade under prefixes candidates longer longestOf longest weigh member adding removing logAt messageBytes bytesOf part put bytesFor bytesForEach isPrefix
+    judgedBy firstFailure actOf actedOf changed settled usedOf agreementOf proposalsOf anyPlace beyondAgreement beyondProposals beyond
+    propose makes gradeAmong overlong
+    maySupport supports hasGrade under prefixes candidates longer longestOf longest weigh member adding removing logAt messageBytes bytesOf
+    part put bytesFor bytesForEach isPrefix
     inStep namesOf countsOf
 longest-out = refl
 
 pub longest-filed : offers (ready 1036 (many 63)) .held .bench .proposals ≡ withProposal (emptyProposals 259) 3 64 2057
 unfolding
-    judgedBy firstFailure actOf actedOf changed settled usedOf agreementOf proposalsOf anyPlace beyondAgreement beyondProposals beyond propose makes gradeAmong overlong
-    maySupport supports hasGrade under prefixes candidates longer longestOf longest weigh member adding removing logAt fileMessage fileProposalOf messageBytes bytesOf part put
+    judgedBy firstFailure actOf actedOf changed settled usedOf agreementOf proposalsOf anyPlace beyondAgreement beyondProposals beyond
+    propose makes gradeAmong overlong
+    maySupport supports hasGrade under prefixes candidates longer longestOf longest weigh member adding removing logAt fileMessage
+    fileProposalOf messageBytes bytesOf part put
     bytesFor bytesForEach isPrefix inStep namesOf countsOf
 longest-filed = refl

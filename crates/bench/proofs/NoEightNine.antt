@@ -1,4 +1,5 @@
--- 8 and 9 no-eight-or-nine arise after Open: worked out from a list of calls, no refusal has these numbers, since no row has. Assumes nothing.
+-- 8 and 9 never arise after Open: worked out from a list of calls, no refusal has these numbers, since no row has. Assumes
+-- nothing.
 use Prim.Native.Nat.{ℕ}
 use mathlib.Core.Bool.{false}
 use mathlib.Core.Option.{some}
@@ -19,5 +20,6 @@ no-row S p (act block priority out) = (refl, refl)
 pub no-eight-or-nine : (S : Seat) (p : History) (c : Call) (k : ℕ) → refusal S p c ≡ some k → NotEightNine k
 unfolding refusal
 no-eight-or-nine S p c k r =
-    let apart : (j : ℕ) → listed j (causes S p c) ≡ false → k ≡ j → ⊥ = λ j n e. unlisted (causes S p c) j n (fails-by (causes S p c) j (rw (← e) r)) in
+    let apart : (j : ℕ) → listed j (causes S p c) ≡ false → k ≡ j
+    → ⊥ = λ j n e. unlisted (causes S p c) j n (fails-by (causes S p c) j (rw (← e) r)) in
     (apart 8 (no-row S p c .0), apart 9 (no-row S p c .1))

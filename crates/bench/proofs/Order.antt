@@ -1,5 +1,5 @@
--- The first failure is given: calls with many faults at once, then one fault less each time; and calls with two faults alone, which stand next to
--- each other in the order. One table, computed. Assumes nothing.
+-- The first failure is given: calls with many faults at once, then one fault less each time; and calls with two faults alone, which stand
+-- next to each other in the order. One table, computed. Assumes nothing.
 use Prim.Native.Nat.{ℕ}
 use mathlib.Core.List.{List, [], _∷_, _++_, map}
 use mathlib.Core.Option.{none}
@@ -192,6 +192,7 @@ rows =
 
 pub rows-hold : map worked rows ≡ map stated rows
 unfolding
-    openOf beginOf receiveOf actedOf actOf makes changed settled snappedBy agreementOf withAgreement judgedBy firstFailure malformed meaningIn anyOf numberAt numbersAt inStep
+    openOf beginOf receiveOf actedOf actOf makes changed settled snappedBy agreementOf withAgreement judgedBy firstFailure malformed
+    meaningIn anyOf numberAt numbersAt inStep
     beyond beyondAgreement beyondProposals anyPlace weigh member adding removing
 rows-hold = refl

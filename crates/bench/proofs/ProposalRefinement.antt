@@ -34,7 +34,8 @@ use Rattle.bench.proofs.Refinement.{HoldsProposals, Filled, Refines}
 use Rattle.bench.proofs.LogRefinement.{Carries, roomy-elsewhere}
 use Rattle.bench.proofs.Filling.{logs-low, holds-same, holds-elsewhere, proposals-views}
 
-module _ (S : Seat) (s : Core) (p : History) (t : Refines S s p) (bytes : List ℕ) (m : Content) (priority : ℕ) (good : Writable (S .terms .n) m) (small : priority < 2 ^ 64)
+module _ (S : Seat) (s : Core) (p : History) (t : Refines S s p) (bytes : List ℕ) (m : Content) (priority : ℕ)
+    (good : Writable (S .terms .n) m) (small : priority < 2 ^ 64)
     (c : Carries bytes (m .log)) (late : viewBeat (m .view) < s .bench .next) (soon : s .bench .next ≤ inputBeat (m .view) + 1) where
   abbrev bench : Bench
   bench = s .bench
@@ -81,20 +82,24 @@ module _ (S : Seat) (s : Core) (p : History) (t : Refines S s p) (bytes : List �
   proposal-word-refines =
       let e = held (m .sender) in
       let f = sent in
-      proposal-word filed (s .names) (s .counts) proposalsPlace bytes (m .sender) priority proposal-fits ∙ (λ i. wordOn sameProposal (e i) (f i))
+      proposal-word filed (s .names) (s .counts) proposalsPlace bytes (m .sender) priority proposal-fits
+      ∙ (λ i. wordOn sameProposal (e i) (f i))
 
   holds-then : HoldsProposals (after .names) (after .counts) (after .proposals) then (m .view)
   unfolding file
   holds-then j = elim (ℕ-discrete j (m .sender)) [
     | yes x ↦
-        subst (λ (i : ℕ). keptProposal (after .names) (after .counts) proposalsPlace (after .proposals) i ≡ heardProposals (heard ∷ p .proposals) (m .view) i) (sym x) own-proposal
+        subst (λ (i : ℕ). keptProposal (after .names) (after .counts) proposalsPlace (after .proposals) i ≡ heardProposals
+        (heard ∷ p .proposals) (m .view) i) (sym x) own-proposal
     | no x ↦
-        proposal-apart filed (s .names) (s .counts) proposalsPlace bytes (m .sender) priority proposal-fits j x (valid-filed .proposer j .short)
+        proposal-apart filed (s .names) (s .counts) proposalsPlace bytes (m .sender) priority proposal-fits j x
+        (valid-filed .proposer j .short)
         ∙ held j
         ∙ sym (proposals-other (p .proposals) heard (m .view) j (inr x))
   ]
     where
-      own-proposal : keptProposal (after .names) (after .counts) proposalsPlace (after .proposals) (m .sender) ≡ heardProposals (heard ∷ p .proposals) (m .view) (m .sender)
+      own-proposal : keptProposal (after .names) (after .counts) proposalsPlace (after .proposals) (m .sender) ≡ heardProposals
+          (heard ∷ p .proposals) (m .view) (m .sender)
       own-proposal =
           let e = held (m .sender) in
           let f = sent in
@@ -108,7 +113,8 @@ module _ (S : Seat) (s : Core) (p : History) (t : Refines S s p) (bytes : List �
     views = λ u i o.
         let z = logs-low u in
         holds-same (record { logs = λ j. refl; acts = λ k. refl })
-        (holds-elsewhere lists-elsewhere (agreementOf bench u) p u (t .valid .few) (agreement-valid bench u i (t .valid)) (inl (omega arith)) (t .filled .views u i o));
+        (holds-elsewhere lists-elsewhere (agreementOf bench u) p u (t .valid .few) (agreement-valid bench u i (t .valid))
+        (inl (omega arith)) (t .filled .views u i o));
     proposals = λ u i o.
         proposals-views (after .names) (after .counts) then (t .filled) (m .view) late soon (after .proposals)
         (proposal-view filed (s .names) (s .counts) proposalsPlace bytes (m .sender) priority ∙ proposals-view bench (m .view))
@@ -124,17 +130,20 @@ module _ (S : Seat) (s : Core) (p : History) (t : Refines S s p) (bytes : List �
         };
   }
 
-  pub proposal-refines : Refines S (record { bench = withProposals bench (after .proposals); names = after .names; counts = after .counts }) then
+  pub proposal-refines : Refines S
+      (record { bench = withProposals bench (after .proposals); names = after .names; counts = after .counts }) then
   unfolding file
   proposal-refines =
       let h = t .valid .decided in
-      let same : logAt (after .names) (after .counts) decidedPlace (bench .decided) ≡ decidedLog s = lists-elsewhere .logs decidedPlace (bench .decided) (inr (omega arith)) in
+      let same : logAt (after .names) (after .counts) decidedPlace (bench .decided) ≡ decidedLog s =
+      lists-elsewhere .logs decidedPlace (bench .decided) (inr (omega arith)) in
       record {
         n-is = t .n-is;
         own-is = t .own-is;
         valid =
             with-proposals-valid bench (t .valid) (after .proposals)
-            (file-proposal-valid (bench .n) filed valid-filed (s .names) (s .counts) proposalsPlace bytes (m .sender) priority (let a = good .sender in let d = t .n-is in omega arith));
+            (file-proposal-valid (bench .n) filed valid-filed (s .names) (s .counts) proposalsPlace bytes (m .sender) priority
+            (let a = good .sender in let d = t .n-is in omega arith));
         roomy = roomy-elsewhere lists-elsewhere (t .roomy);
         last-is = t .last-is;
         gathering-is = t .gathering-is;

@@ -1,4 +1,4 @@
--- The tie between a bench's record with its lists and its history: of every view still open they hold the same. Assumes nothing.
+-- The refinement between a bench's record with its lists and its history: of every view still open they hold the same. Assumes nothing.
 use Prim.Native.Nat.{ℕ, zero, suc, _+_, _^_, _≤_, _<_}
 use native.Mathlib.Omega.{arith}
 use mathlib.Core.Bool.{not}

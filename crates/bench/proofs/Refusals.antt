@@ -1,5 +1,5 @@
--- The refusals, for every record, list, message and buffer: a call is refused by the first failure of its causes, under no other condition, and then
--- leaves all as it was. What "first failure" comes to, row by row, is said over any list in message's CauseLaws. Assumes nothing.
+-- The refusals, for every record, list, message and buffer: a call is refused by the first failure of its causes, under no other condition,
+-- and then leaves all as it was. What "first failure" comes to, row by row, is said over any list in message's CauseLaws. Assumes nothing.
 use Prim.Native.Nat.{ℕ}
 use native.Mathlib.Omega.{arith}
 use mathlib.Core.Bool.{Bool, true, false, not}
@@ -10,7 +10,8 @@ use Rattle.message.specs.Choice.{pick}
 use Rattle.message.specs.Causes.{Cause, by, firstFailure, judgedBy}
 use Rattle.message.specs.Logs.{Block}
 use Rattle.message.specs.Message.{Meaning, meaningIn, readCauses, refused as unread, means, readOf}
-use Rattle.message.proofs.CauseLaws.{no-failure, failure-append, listed, row-given, row-only, judged, judged-refused, judged-done, judged-past}
+use Rattle.message.proofs.CauseLaws.{no-failure, failure-append, listed, row-given, row-only, judged, judged-refused, judged-done}
+use Rattle.message.proofs.CauseLaws.{judged-past}
 use Rattle.message.proofs.Acceptance.{read-cause, accepted as read-accepted}
 use Rattle.bench.specs.Terms.{Terms, seatOf}
 use Rattle.bench.specs.Layout.{Lent, shortLists}
@@ -18,7 +19,8 @@ use Rattle.bench.specs.Calls.{Reply, refused, done, Opening, Step, State
 use Rattle.bench.specs.Causes.{openCauses, messageCauses}
 use Rattle.bench.specs.History.{openRefusal}
 use Rattle.bench.specs.Record.{freshBench, beatOf, idle, beyond}
-use Rattle.bench.specs.ByRecord.{refuse, stepBy, recordCauses, notOpened, openOf, begun, beginRows, beginOf, fileMessage, taken, receiveRows, receiveOf, actedOf, actedNow, actRows, actOf}
+use Rattle.bench.specs.ByRecord.{refuse, stepBy, recordCauses, notOpened, openOf, begun, beginRows, beginOf, fileMessage, taken}
+use Rattle.bench.specs.ByRecord.{receiveRows, receiveOf, actedOf, actedNow, actRows, actOf}
 use Rattle.bench.specs.Tested.{Usable}
 
 -- ---- Open
@@ -71,7 +73,8 @@ pub record Judged (cs : List Cause) (s : State) (out : List ℕ) (t r : Step) : 
 abbrev Answers : Reply → Type 0
 Answers a = (k : ℕ) → a ≡ refused k → ⊥
 
-by-causes : (cs : List Cause) (s : State) (out : List ℕ) (t : Step) → Answers (t .answer .reply) → Judged cs s out t (judgedBy cs (refuse s out) t)
+by-causes : (cs : List Cause) (s : State) (out : List ℕ) (t : Step) → Answers (t .answer .reply)
+    → Judged cs s out t (judgedBy cs (refuse s out) t)
 by-causes cs s out t a = record {
   refuses = judged-refused (refuse s out) t cs;
   does = judged-done (refuse s out) t cs;
@@ -82,7 +85,8 @@ by-causes cs s out t a = record {
 }
 
 -- a refused call leaves record, lists and buffer
-pub refusal-leaves : {cs : List Cause} {s : State} {out : List ℕ} {t r : Step} → Judged cs s out t r → (k : ℕ) → r .answer .reply ≡ refused k
+pub refusal-leaves : {cs : List Cause} {s : State} {out : List ℕ} {t r : Step} → Judged cs s out t r → (k : ℕ)
+    → r .answer .reply ≡ refused k
     → (r .held ≡ s) × (r .answer .out ≡ out)
 refusal-leaves j k q = let e = j .refuses k (j .cause k q) in (ap (λ (x : Step). x .held) e, ap (λ (x : Step). x .answer .out) e)
 
@@ -124,15 +128,18 @@ module _ {cs : List Cause} {s : State} {out : List ℕ} {t r : Step} (j : Judged
   only-8 n q = let x = row-only cs 8 (shortLists (s .lent)) (by 9 (beyond (s .bench)) ∷ []) refl n (j .cause 8 q) in (x .0 .0, x .1)
 
 -- where neither is given, the causes of its own judge it
-pub usable-past : {A : Type 0} (refuse : ℕ → A) (x : A) (s : State) (cs : List Cause) → Usable (coreOf s) → judgedBy (recordCauses s ++ cs) refuse x ≡ judgedBy cs refuse x
+pub usable-past : {A : Type 0} (refuse : ℕ → A) (x : A) (s : State) (cs : List Cause) → Usable (coreOf s)
+    → judgedBy (recordCauses s ++ cs) refuse x ≡ judgedBy cs refuse x
 usable-past refuse x s cs u = judged-past refuse x (recordCauses s) cs (u .limits, (u .lists, tt))
 
 -- Receive, in a gathering: the message's
 pub receive-on : (s : State) (bytes : List ℕ) → Usable (coreOf s) → idle (s .bench) ≡ false
-    → receiveOf s bytes ≡ judgedBy (messageCauses (s .bench .n) (beatOf (s .bench)) bytes) (refuse s []) (stepBy s (taken (fileMessage (coreOf s) bytes (meaningIn bytes))))
+    → receiveOf s bytes ≡ judgedBy (messageCauses (s .bench .n) (beatOf (s .bench)) bytes) (refuse s [])
+    (stepBy s (taken (fileMessage (coreOf s) bytes (meaningIn bytes))))
 unfolding receiveOf
 receive-on s bytes u g =
-    judged-past (refuse s []) (stepBy s (taken (fileMessage (coreOf s) bytes (meaningIn bytes)))) (recordCauses s ++ (by 22 (idle (s .bench)) ∷ [])) (messageCauses (s .bench .n) (beatOf (s .bench)) bytes)
+    judged-past (refuse s []) (stepBy s (taken (fileMessage (coreOf s) bytes (meaningIn bytes))))
+    (recordCauses s ++ (by 22 (idle (s .bench)) ∷ [])) (messageCauses (s .bench .n) (beatOf (s .bench)) bytes)
     (u .limits, (u .lists, (g, tt)))
 
 -- and once it is read: refused as it was read, or by its window alone
@@ -144,7 +151,8 @@ module _ (n beat : ℕ) (bytes : List ℕ) where
       → judgedBy (messageCauses n beat bytes) refuse (take (meaningIn bytes)) ≡ pick (openTo m beat) (take m) (refuse 21)
   message-read {A} refuse take m e =
       let (reads, same) = read-accepted n bytes m e in
-      judged-past refuse (take (meaningIn bytes)) (readCauses n bytes) (by 21 (not (openTo (meaningIn bytes) beat)) ∷ []) reads ∙ rw same (shut (openTo m beat))
+      judged-past refuse (take (meaningIn bytes)) (readCauses n bytes) (by 21 (not (openTo (meaningIn bytes) beat)) ∷ []) reads
+      ∙ rw same (shut (openTo m beat))
     where
       shut : (t : Bool) → judgedBy (by 21 (not t) ∷ []) refuse (take m) ≡ pick t (take m) (refuse 21)
       shut true = judged-done refuse (take m) (by 21 false ∷ []) (no-failure (by 21 false ∷ []) (refl, tt))

@@ -23,8 +23,10 @@ use Rattle.agreement.specs.Heard.{voteAmong}
 use Rattle.bench.specs.Layout.{leastLent, mostBytes}
 use Rattle.bench.specs.Calls.{Reply, done, acted, Step, State, coreOf}
 use Rattle.bench.specs.Acts.{propose, vote, makes}
-use Rattle.bench.specs.Record.{freshBench, agreementOf, proposalsOf, withAgreement, anyPlace, beyondAgreement, beyondProposals, beyond}
-use Rattle.bench.specs.ByRecord.{keptAgreement, keptProposals, beginOf, fileMessage, receiveOf, usedOf, settled, snappedBy, changed, actedOf, actOf, decidedLog}
+use Rattle.bench.specs.Record.{freshBench, agreementOf, proposalsOf, withAgreement, anyPlace, beyondAgreement, beyondProposals}
+use Rattle.bench.specs.Record.{beyond}
+use Rattle.bench.specs.ByRecord.{keptAgreement, keptProposals, beginOf, fileMessage, receiveOf, usedOf, settled, snappedBy, changed}
+use Rattle.bench.specs.ByRecord.{actedOf, actOf, decidedLog}
 
 -- ---- a roll
 
@@ -67,7 +69,13 @@ rollFrom s out [] = []
 rollFrom s out (o ∷ os) =
     let b : Step = beginOf s (beatIn o) in
     let a : Step = actOf (heardIn o (b .held)) (blockIn o) (priorityIn o) out in
-    record { begun = b .answer .reply; made = a .answer .reply; decided = decidedLog (coreOf (a .held)); parted = isYes (a .held .bench .parted) }
+    record {
+      begun = b .answer .reply;
+      made = a .answer .reply;
+      decided = decidedLog (coreOf (a .held));
+      parted =
+          isYes (a .held .bench .parted);
+    }
     ∷ rollFrom (a .held) (a .answer .out) os
 
 -- bench 0 of 1, as Open gives it
@@ -152,7 +160,8 @@ abbrev pub asleep : List Event
 asleep = offering 0 5 1 9 ∷ at 1 ∷ at 2 ∷ at 4 ∷ at 5 ∷ at 6 ∷ []
 
 abbrev asleepLines : List Line
-asleepLines = line (some (proposal 0 five 9)) [] ∷ line (some (log 0 five)) [] ∷ line none [] ∷ line none [] ∷ line none [] ∷ line none five ∷ []
+asleepLines = line (some (proposal 0 five 9)) [] ∷ line
+    (some (log 0 five)) [] ∷ line none [] ∷ line none [] ∷ line none [] ∷ line none five ∷ []
 
 -- Asleep at 2, awake at 3: a lock and so a LOG at 5, and no decision at 6.
 abbrev pub late : List Event
@@ -160,10 +169,11 @@ late = offering 0 5 1 9 ∷ at 1 ∷ at 3 ∷ at 4 ∷ at 5 ∷ at 6 ∷ []
 
 abbrev lateLines : List Line
 lateLines =
-    line (some (proposal 0 five 9)) [] ∷ line (some (log 0 five)) [] ∷ line none [] ∷ line none [] ∷ line (some (log 1 five)) [] ∷ line none [] ∷ []
+    line (some (proposal 0 five 9)) [] ∷ line (some (log 0 five)) [] ∷ line none [] ∷ line none [] ∷ line
+    (some (log 1 five)) [] ∷ line none [] ∷ []
 
--- Decisions in conflict, at 10 by name and at 22 by count: what stands stays, and the mark is set, for good: also where a later decision extends
--- what stands (14), equals it (18) or is a prefix of it (26). (Only LOGs under its own number can bring a bench alone to this.)
+-- Decisions in conflict, at 10 by name and at 22 by count: what stands stays, and the mark is set, for good: also where a later decision
+-- extends what stands (14), equals it (18) or is a prefix of it (26). (Only LOGs under its own number can bring a bench alone to this.)
 abbrev parting : List Event
 parting =
     hearing 2 (log 0 five)
@@ -184,7 +194,8 @@ partingLines =
     ∷ partedLine none five
     ∷ replicate 4 (partedLine none fiveSix)
 
--- Decisions that are proper prefixes of the log that stands, the empty one too, change nothing and set no mark; nor does the same log again.
+-- Decisions that are proper prefixes of the log that stands, the empty one too, change nothing and set no mark; nor does the same log
+-- again.
 abbrev pub keeping : List Event
 keeping = hearing 2 (log 0 fiveSix) ∷ hearing 6 (log 1 five) ∷ hearing 10 (log 2 []) ∷ hearing 14 (log 3 fiveSix) ∷ at 18 ∷ []
 
@@ -198,8 +209,8 @@ countParting = hearing 2 (log 0 five) ∷ hearing 6 (log 1 short) ∷ at 10 ∷ 
 abbrev countPartingLines : List Line
 countPartingLines = line none [] ∷ line none five ∷ partedLine none five ∷ []
 
--- A LOG under its own number, heard before its own is made: that is made all the same, and makes the bench an equivocator to itself. So there is no
--- candidate, though a block is offered, no lock and no decision.
+-- A LOG under its own number, heard before its own is made: that is made all the same, and makes the bench an equivocator to itself. So
+-- there is no candidate, though a block is offered, no lock and no decision.
 abbrev pub forged : List Event
 forged = offering 0 5 1 9 ∷ hearing 1 (log 0 seven) ∷ at 2 ∷ at 3 ∷ offering 4 6 1 9 ∷ at 5 ∷ at 6 ∷ []
 
@@ -214,10 +225,14 @@ abbrev endingLines : List Line
 endingLines = replicate 5 (line none []) ++ (line none five ∷ [])
 
 pub rolls-hold : map roll (sample ∷ twoViews ∷ asleep ∷ late ∷ parting ∷ keeping ∷ countParting ∷ forged ∷ ending ∷ [])
-    ≡ sampleLines ∷ twoViewsLines ∷ asleepLines ∷ lateLines ∷ partingLines ∷ keepingLines ∷ countPartingLines ∷ forgedLines ∷ endingLines ∷ []
+    ≡ sampleLines ∷ twoViewsLines ∷ asleepLines ∷ lateLines ∷ partingLines ∷ keepingLines ∷ countPartingLines ∷ forgedLines ∷ endingLines ∷
+    []
 unfolding
-    rollFrom beginOf receiveOf judgedBy firstFailure malformed meaningIn choice.anyOf actOf actedOf changed snappedBy settled usedOf fileMessage keptAgreement keptProposals agreementOf
-    proposalsOf withAgreement anyPlace beyondAgreement beyondProposals beyond propose vote makes voteAmong keptProposal fileProposalOf bestOf gradeAmong
-    member adding removing fileOf overlong maySupport supports hasGrade under prefixes candidates reading.longer longestOf longest weigh logAt messageBytes
+    rollFrom beginOf receiveOf judgedBy firstFailure malformed meaningIn choice.anyOf actOf actedOf changed snappedBy settled usedOf
+    fileMessage keptAgreement keptProposals agreementOf
+    proposalsOf withAgreement anyPlace beyondAgreement beyondProposals beyond propose vote makes voteAmong keptProposal fileProposalOf
+    bestOf gradeAmong
+    member adding removing fileOf overlong maySupport supports hasGrade under prefixes candidates reading.longer longestOf longest weigh
+    logAt messageBytes
     bytesOf part put numberAt numbersAt bytesFor bytesForEach isPrefix sameLog inStep namesOf countsOf
 rolls-hold = refl

@@ -1,4 +1,5 @@
--- What an act sees in the record is what it sees in the history, at the beats at which it looks: so it makes and decides the same. Assumes nothing.
+-- What an act sees in the record is what it sees in the history, at the beats at which it looks: so it makes and decides the same. Assumes
+-- nothing.
 use Prim.Native.Nat.{ℕ, zero, suc, _+_, _≤_}
 use native.Mathlib.Omega.{arith}
 use mathlib.Core.Bool.{false}
@@ -70,7 +71,8 @@ module _ (S : Seat) (s : Core) (p : History) (t : Refines S s p) where
     by-snapshot k =
         grade-by (b .n) (s .names) (s .counts) (logsPlace u) g within (room u) (snapshotAt k (g .marks))
         ∙ ap (λ (n : ℕ). gradeWith n (weightOf (S .terms)) kept (snapshotIn (snapshotAt k (g .marks)))) (t .n-is)
-        ∙ gradeWith-cong (S .terms .n) (weightOf (S .terms)) kept (heardLogs (p .heard) u) (λ i l. held .logs i) (snapshotIn (snapshotAt k (g .marks)))
+        ∙ gradeWith-cong (S .terms .n) (weightOf (S .terms)) kept (heardLogs (p .heard) u) (λ i l. held .logs i)
+        (snapshotIn (snapshotAt k (g .marks)))
         ∙ ap (gradeWith (S .terms .n) (weightOf (S .terms)) (heardLogs (p .heard) u)) (held .snapshots k)
 
     grade-same : (k : ℕ) → gradeOf (s .names) (s .counts) (logsPlace u) g k ≡ gradeAt S p u k
@@ -95,11 +97,13 @@ module _ (S : Seat) (s : Core) (p : History) (t : Refines S s p) where
       let f = proposals-valid b v low (t .valid) in
       let filed = keptProposal (s .names) (s .counts) proposalsPlace (proposalsOf b v) in
       let same : filed ≡ heardProposals (p .proposals) v = fun-ext (λ i. t .filled .proposals v low still i) in
-      vote-kept (b .n) (s .names) (s .counts) proposalsPlace (proposalsOf b v) L (t .valid .few) (λ i h l. f .proposer i .not-filed h) (λ i h l. f .proposer i .not-aside h)
+      vote-kept (b .n) (s .names) (s .counts) proposalsPlace (proposalsOf b v) L (t .valid .few) (λ i h l. f .proposer i .not-filed h)
+      (λ i h l. f .proposer i .not-aside h)
       ∙ ap (λ (k : ℕ). voteAmong k filed L) (t .n-is)
       ∙ ap (λ (x : ℕ → Kept Proposed). voteAmong (S .terms .n) x L) same
 
-  votes-same : (v : ℕ) (lock : Option Log) → v ≤ lastView → b .next ≤ inputBeat v + 1 → vote (S .own) v (chooseOf v) lock ≡ vote (S .own) v (chooseAt v) lock
+  votes-same : (v : ℕ) (lock : Option Log) → v ≤ lastView → b .next ≤ inputBeat v + 1
+      → vote (S .own) v (chooseOf v) lock ≡ vote (S .own) v (chooseAt v) lock
   unfolding vote
   votes-same v none low still = refl
   votes-same v (some L) low still =
@@ -120,7 +124,8 @@ module _ (S : Seat) (s : Core) (p : History) (t : Refines S s p) where
     used-same (suc u) (suc (suc (suc r))) ev er = refl
 
     pub makes-same : (v r : ℕ) → viewOf beat ≡ v → placeIn beat ≡ r
-        → makes (S .own) v block priority (seenOf s v (actAt r)) (actAt r) ≡ makes (S .own) v block priority (seenAt S p v (actAt r)) (actAt r)
+        → makes (S .own) v block priority (seenOf s v (actAt r)) (actAt r) ≡ makes (S .own) v block priority (seenAt S p v (actAt r))
+        (actAt r)
     unfolding makes
     makes-same v zero ev er = ap (λ (C : Option Log). inViews v (propose (S .own) v block priority C)) (used-same v 0 ev er)
     makes-same v (suc zero) ev er =
@@ -131,7 +136,8 @@ module _ (S : Seat) (s : Core) (p : History) (t : Refines S s p) where
     makes-same v (suc (suc zero)) ev er = refl
     makes-same v (suc (suc (suc r))) ev er = refl
 
-    pub decides-same : (v r : ℕ) → viewOf beat ≡ v → placeIn beat ≡ r → decides (seenOf s v (actAt r)) (actAt r) ≡ decides (seenAt S p v (actAt r)) (actAt r)
+    pub decides-same : (v r : ℕ) → viewOf beat ≡ v → placeIn beat ≡ r
+        → decides (seenOf s v (actAt r)) (actAt r) ≡ decides (seenAt S p v (actAt r)) (actAt r)
     decides-same v zero ev er = refl
     decides-same v (suc zero) ev er = refl
     decides-same v (suc (suc zero)) ev er = used-same v 2 ev er

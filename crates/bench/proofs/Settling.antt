@@ -1,5 +1,5 @@
--- An act ends the gathering and settles its decision: what stands in the record and the lists is what the decisions come to; what is filed stays.
--- Assumes nothing.
+-- An act ends the gathering and settles its decision: what stands in the record and the lists is what the decisions come to; what is filed
+-- stays. Assumes nothing.
 use Prim.Native.Nat.{ℕ}
 use native.Mathlib.Omega.{arith}
 use mathlib.Core.Bool.{true, false}
@@ -29,7 +29,7 @@ use Rattle.bench.proofs.Refinement.{Filled, Roomy, Refines}
 use Rattle.bench.proofs.Filling.{filled-decided}
 use Rattle.bench.proofs.LogRefinement.{roomy-elsewhere}
 
--- The core x after a decision d, of a bench that was refined to p and whose gathering is over.
+-- The core x after a decision d, of a bench that refined p and whose gathering is over.
 pub record Settled (S : Seat) (s : Core) (p : History) (d : Option Log) (x : Core) : Type 0 where
   pub n-is : x .bench .n ≡ S .terms .n
   pub own-is : x .bench .own ≡ S .own
@@ -41,7 +41,8 @@ pub record Settled (S : Seat) (s : Core) (p : History) (d : Option Log) (x : Cor
   pub stand-is : standOf x ≡ settle (standIn (S .stood) (p .actions)) d
 
 -- a record with the same agreements, proposals and beat holds the same
-same-filled : {b c : Bench} {ns cs : List ℕ} {p : History} → c .next ≡ b .next → c .even ≡ b .even → c .odd ≡ b .odd → c .proposals ≡ b .proposals → Filled b ns cs p → Filled c ns cs p
+same-filled : {b c : Bench} {ns cs : List ℕ} {p : History} → c .next ≡ b .next → c .even ≡ b .even → c .odd ≡ b .odd
+    → c .proposals ≡ b .proposals → Filled b ns cs p → Filled c ns cs p
 unfolding agreementOf proposalsOf
 same-filled e f g h x = record {
   views = rw (e, f, g) (x .views);
@@ -68,7 +69,8 @@ module _ (S : Seat) (s : Core) (p : History) (t : Refines S s p) where
   }
 
   module _ (L : Log) (good : GoodLog L) where
-    elsewhere : Elsewhere decidedPlace mostBlocks (s .names) (s .counts) (put (s .names) decidedPlace (namesOf L)) (put (s .counts) decidedPlace (countsOf L))
+    elsewhere : Elsewhere decidedPlace mostBlocks (s .names) (s .counts) (put (s .names) decidedPlace (namesOf L))
+        (put (s .counts) decidedPlace (countsOf L))
     elsewhere =
         let l = good .short in
         put-elsewhere decidedPlace mostBlocks (s .names) (s .counts) decidedPlace L (omega arith) (omega arith) (good .names) (good .counts)
@@ -105,7 +107,8 @@ module _ (S : Seat) (s : Core) (p : History) (t : Refines S s p) where
         let m = marked in
         let st : standOf replaced ≡ record { log = L; parted = standIn (S .stood) (p .actions) .parted } =
         λ i. record { log = a i; parted = m i } in
-        let z : settle (standIn (S .stood) (p .actions)) (some L) ≡ record { log = L; parted = standIn (S .stood) (p .actions) .parted } = rw e′ in
+        let z : settle (standIn (S .stood) (p .actions)) (some L) ≡ record { log = L; parted = standIn (S .stood) (p .actions) .parted } =
+        rw e′ in
         rw e (record {
           n-is = t .n-is;
           own-is = t .own-is;
@@ -135,9 +138,11 @@ module _ (S : Seat) (s : Core) (p : History) (t : Refines S s p) where
         let e′ : isPrefix (standIn (S .stood) (p .actions) .log) L ≡ false = ap (λ (x : Log). isPrefix x L) (sym stands) ∙ e in
         let f′ : isPrefix L (standIn (S .stood) (p .actions) .log) ≡ false = ap (isPrefix L) (sym stands) ∙ f in
         let a = stands in
-        let st : standOf (record { bench = withParted (withGatheringOver (s .bench)); names = s .names; counts = s .counts }) ≡ record { log = standIn (S .stood) (p .actions) .log; parted = true } =
+        let st : standOf (record { bench = withParted (withGatheringOver (s .bench)); names = s .names; counts = s .counts }) ≡ record
+        { log = standIn (S .stood) (p .actions) .log; parted = true } =
         λ i. record { log = a i; parted = true } in
-        let z : settle (standIn (S .stood) (p .actions)) (some L) ≡ record { log = standIn (S .stood) (p .actions) .log; parted = true } = rw (e′, f′) in
+        let z : settle (standIn (S .stood) (p .actions)) (some L) ≡ record { log = standIn (S .stood) (p .actions) .log; parted = true } =
+        rw (e′, f′) in
         rw (e, f) (record {
           n-is = t .n-is;
           own-is = t .own-is;

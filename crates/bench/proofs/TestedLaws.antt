@@ -1,4 +1,5 @@
--- What the tests of a call leave where none of them refuses, as facts: of the record, of the two lists and of the outgoing buffer. Assumes nothing.
+-- What the tests of a call leave where none of them refuses, as facts: of the record, of the two lists and of the outgoing buffer. Assumes
+-- nothing.
 use Prim.Native.Nat.{ℕ, _+_, _≤_}
 use native.Mathlib.Omega.{arith}
 use mathlib.Core.Bool.{Bool, true, false}

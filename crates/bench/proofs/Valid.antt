@@ -19,7 +19,8 @@ use Rattle.agreement.proofs.SetLaws.{Meet, weigh-some, weigh-none}
 use Rattle.agreement.proofs.MaskLaws.{member-past}
 use Rattle.bench.specs.Layout.{outOfRange}
 use Rattle.bench.specs.Calendar.{lastBeat}
-use Rattle.bench.specs.Record.{anyPlace, namesBeyond, inBoth, unheardOf, tooLong, badSender, beyondAgreement, badProposer, beyondProposals, beyond, Bench}
+use Rattle.bench.specs.Record.{anyPlace, namesBeyond, inBoth, unheardOf, tooLong, badSender, beyondAgreement, badProposer}
+use Rattle.bench.specs.Record.{beyondProposals, beyond, Bench}
 
 -- ---- the arrays have a place for each of 32 senders, and the sets name none beyond, as the code's types say
 
@@ -49,7 +50,8 @@ pub record ValidSender (n i blocks : ℕ) (v e one two : Bool) : Type 0 where
 -- Past the arrays' ends a length reads as 0 and a set as empty, so the facts hold at every number.
 pub record ValidAgreement (n : ℕ) (g : Agreement) : Type 0 where
   pub view : g .marks .view ≤ lastView
-  pub sender : (i : ℕ) → ValidSender n i (getD (g .lengths) i 0) (isVoter g i) (isEquivocator g i) (member (g .marks .one .senders) i) (member (g .marks .two .senders) i)
+  pub sender : (i : ℕ) → ValidSender n i (getD (g .lengths) i 0) (isVoter g i) (isEquivocator g i) (member (g .marks .one .senders) i)
+      (member (g .marks .two .senders) i)
   pub sized : SizedAgreement g
 
 -- Place i of the proposals: its length, and whether there is one, and whether it is set aside.
@@ -125,7 +127,8 @@ module _ (n i : ℕ) where
   unheard b s h = off-and b (not s) (λ t. not-off s (h t))
 
   valid-sender : (g : Agreement) → badSender n g i ≡ false
-      → ValidSender n i (getD (g .lengths) i 0) (isVoter g i) (isEquivocator g i) (member (g .marks .one .senders) i) (member (g .marks .two .senders) i)
+      → ValidSender n i (getD (g .lengths) i 0) (isVoter g i) (isEquivocator g i) (member (g .marks .one .senders) i)
+      (member (g .marks .two .senders) i)
   valid-sender g e =
       let a = or-false (tooLong (g .lengths) i) _ e in
       let b = or-false (namesBeyond n (g .marks .voters) i) _ (a .1) in
@@ -146,7 +149,8 @@ module _ (n i : ℕ) where
       }
 
   not-bad : (g : Agreement)
-      → ValidSender n i (getD (g .lengths) i 0) (isVoter g i) (isEquivocator g i) (member (g .marks .one .senders) i) (member (g .marks .two .senders) i)
+      → ValidSender n i (getD (g .lengths) i 0) (isVoter g i) (isEquivocator g i) (member (g .marks .one .senders) i)
+      (member (g .marks .two .senders) i)
       → badSender n g i ≡ false
   not-bad g f =
       off-or (tooLong (g .lengths) i) _ (le-ltb mostBlocks (getD (g .lengths) i 0) (f .short))
@@ -165,7 +169,8 @@ past : {A : Type 0} (l : List A) (i : ℕ) (d : A) → length l ≡ mostSenders 
 past l i d e h = List·getD-eq-default l d (omega arith)
 
 -- a place where nothing is filed
-pub nothing-valid : (n i blocks : ℕ) (v e one two : Bool) → blocks ≡ 0 → v ≡ false → e ≡ false → one ≡ false → two ≡ false → ValidSender n i blocks v e one two
+pub nothing-valid : (n i blocks : ℕ) (v e one two : Bool) → blocks ≡ 0 → v ≡ false → e ≡ false → one ≡ false → two ≡ false
+    → ValidSender n i blocks v e one two
 nothing-valid n i blocks v e one two k p q r s = record {
   short = omega arith;
   no-voter = λ h. p;
@@ -177,7 +182,8 @@ nothing-valid n i blocks v e one two k p q r s = record {
   two-heard = λ t. neither t s;
 }
 
-pub unfiled-valid : (n i blocks : ℕ) (filed aside : Bool) → blocks ≡ 0 → filed ≡ false → aside ≡ false → ValidProposer n i blocks filed aside
+pub unfiled-valid : (n i blocks : ℕ) (filed aside : Bool) → blocks ≡ 0 → filed ≡ false → aside ≡ false
+    → ValidProposer n i blocks filed aside
 unfiled-valid n i blocks filed aside k p q = record { short = omega arith; not-filed = λ h. p; not-aside = λ h. q }
 
 module _ (n : ℕ) (g : Agreement) where
@@ -190,7 +196,9 @@ module _ (n : ℕ) (g : Agreement) where
         sender = λ i. elim (decLe mostSenders i) [
           | yes h ↦ nothing-valid n i _ _ _ _ _
               (past (g .lengths) i 0 (z .filed .lengths) h) (member-past (g .marks .voters) mostSenders i (z .filed .voters) h)
-              (member-past (g .marks .equivocators) mostSenders i (z .filed .equivocators) h) (member-past (g .marks .one .senders) mostSenders i (z .one) h) (member-past (g .marks .two .senders) mostSenders i (z .two) h)
+              (member-past (g .marks .equivocators) mostSenders i (z .filed .equivocators) h)
+              (member-past (g .marks .one .senders) mostSenders i (z .one) h)
+              (member-past (g .marks .two .senders) mostSenders i (z .two) h)
           | no h ↦ valid-sender n i g (no-place (badSender n g) (a .1) i (omega arith))
         ];
         sized = z;
@@ -199,10 +207,12 @@ module _ (n : ℕ) (g : Agreement) where
   agreement-not-beyond : ValidAgreement n g → beyondAgreement n g ≡ false
   unfolding beyondAgreement
   agreement-not-beyond f =
-      off-or (ltb lastView (g .marks .view)) _ (le-ltb lastView (g .marks .view) (f .view)) (none-placed (badSender n g) (λ i h. not-bad n i g (f .sender i)))
+      off-or (ltb lastView (g .marks .view)) _ (le-ltb lastView (g .marks .view) (f .view))
+      (none-placed (badSender n g) (λ i h. not-bad n i g (f .sender i)))
 
 module _ (n : ℕ) (g : Proposals) where
-  valid-proposer : (i : ℕ) → badProposer n g i ≡ false → ValidProposer n i (getD (g .lengths) i 0) (member (g .marks .filed) i) (member (g .marks .aside) i)
+  valid-proposer : (i : ℕ) → badProposer n g i ≡ false
+      → ValidProposer n i (getD (g .lengths) i 0) (member (g .marks .filed) i) (member (g .marks .aside) i)
   valid-proposer i e =
       let a = or-false (tooLong (g .lengths) i) _ e in
       let b = or-false (namesBeyond n (g .marks .filed) i) (namesBeyond n (g .marks .aside) i) (a .1) in
@@ -212,10 +222,12 @@ module _ (n : ℕ) (g : Proposals) where
         not-aside = below n i (member (g .marks .aside) i) (b .1);
       }
 
-  proposer-not-bad : (i : ℕ) → ValidProposer n i (getD (g .lengths) i 0) (member (g .marks .filed) i) (member (g .marks .aside) i) → badProposer n g i ≡ false
+  proposer-not-bad : (i : ℕ) → ValidProposer n i (getD (g .lengths) i 0) (member (g .marks .filed) i) (member (g .marks .aside) i)
+      → badProposer n g i ≡ false
   proposer-not-bad i f =
       off-or (tooLong (g .lengths) i) _ (le-ltb mostBlocks (getD (g .lengths) i 0) (f .short))
-      (off-or (namesBeyond n (g .marks .filed) i) _ (named n i (member (g .marks .filed) i) (f .not-filed)) (named n i (member (g .marks .aside) i) (f .not-aside)))
+      (off-or (namesBeyond n (g .marks .filed) i) _ (named n i (member (g .marks .filed) i) (f .not-filed))
+      (named n i (member (g .marks .aside) i) (f .not-aside)))
 
   valid-proposals : beyondProposals n g ≡ false → SizedProposals g → ValidProposals n g
   unfolding beyondProposals
@@ -224,7 +236,8 @@ module _ (n : ℕ) (g : Proposals) where
       record {
         view = ltb-false lastView (g .marks .view) (a .0);
         proposer = λ i. elim (decLe mostSenders i) [
-          | yes h ↦ unfiled-valid n i _ _ _ (past (g .lengths) i 0 (z .lengths) h) (member-past (g .marks .filed) mostSenders i (z .filed) h) (member-past (g .marks .aside) mostSenders i (z .aside) h)
+          | yes h ↦ unfiled-valid n i _ _ _ (past (g .lengths) i 0 (z .lengths) h)
+              (member-past (g .marks .filed) mostSenders i (z .filed) h) (member-past (g .marks .aside) mostSenders i (z .aside) h)
           | no h ↦ valid-proposer i (no-place (badProposer n g) (a .1) i (omega arith))
         ];
         sized = z;
@@ -233,7 +246,8 @@ module _ (n : ℕ) (g : Proposals) where
   proposals-not-beyond : ValidProposals n g → beyondProposals n g ≡ false
   unfolding beyondProposals
   proposals-not-beyond f =
-      off-or (ltb lastView (g .marks .view)) _ (le-ltb lastView (g .marks .view) (f .view)) (none-placed (badProposer n g) (λ i h. proposer-not-bad i (f .proposer i)))
+      off-or (ltb lastView (g .marks .view)) _ (le-ltb lastView (g .marks .view) (f .view))
+      (none-placed (badProposer n g) (λ i h. proposer-not-bad i (f .proposer i)))
 
 -- ---- the record
 

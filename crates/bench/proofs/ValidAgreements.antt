@@ -14,7 +14,8 @@ use Rattle.message.specs.Message.{countIn}
 use Rattle.message.proofs.TestLaws.{either}
 use Rattle.agreement.specs.Limits.{mostSenders}
 use Rattle.agreement.specs.Sets.{member, adding, removing}
-use Rattle.agreement.specs.Record.{emptyAgreement, isVoter, isEquivocator, withFirst, withSecond, SnapshotNumber, one, two, withSnapshot, Agreement}
+use Rattle.agreement.specs.Record.{emptyAgreement, isVoter, isEquivocator, withFirst, withSecond, SnapshotNumber, one, two, withSnapshot}
+use Rattle.agreement.specs.Record.{Agreement}
 use Rattle.agreement.specs.Filing.{fileOf}
 use Rattle.agreement.proofs.FilingLaws.{few-blocks}
 use Rattle.agreement.proofs.KeptLaws.{file-cases}
@@ -90,7 +91,8 @@ module _ (n : ℕ) (g : Agreement) (f : ValidAgreement n g) where
     module _ (k : ℕ) (few : k ≤ mostBlocks) (e : isEquivocator g i ≡ false) where
       abbrev FirstAt : ℕ → Type 0
       FirstAt j =
-          ValidSender n j (getD (set (g .lengths) i k) j 0) (member (adding (g .marks .voters) i) j) (isEquivocator g j) (member (g .marks .one .senders) j) (member (g .marks .two .senders) j)
+          ValidSender n j (getD (set (g .lengths) i k) j 0) (member (adding (g .marks .voters) i) j) (isEquivocator g j)
+          (member (g .marks .one .senders) j) (member (g .marks .two .senders) j)
 
       first-here : FirstAt i
       first-here =
@@ -120,14 +122,16 @@ module _ (n : ℕ) (g : Agreement) (f : ValidAgreement n g) where
     -- sender i's second log
     abbrev SecondAt : ℕ → Type 0
     SecondAt j =
-        ValidSender n j (getD (g .lengths) j 0) (member (removing (g .marks .voters) i) j) (member (adding (g .marks .equivocators) i) j) (member (g .marks .one .senders) j) (member (g .marks .two .senders) j)
+        ValidSender n j (getD (g .lengths) j 0) (member (removing (g .marks .voters) i) j) (member (adding (g .marks .equivocators) i) j)
+        (member (g .marks .one .senders) j) (member (g .marks .two .senders) j)
 
     second-here : SecondAt i
     second-here =
         rw (
           removing-same (g .marks .voters) i,
           adding-same (g .marks .equivocators) i,
-        ) (equivocator-valid n i (getD (g .lengths) i 0) (member (g .marks .one .senders) i) (member (g .marks .two .senders) i) here (f .sender i .short))
+        ) (equivocator-valid n i (getD (g .lengths) i 0) (member (g .marks .one .senders) i) (member (g .marks .two .senders) i) here
+        (f .sender i .short))
 
     second-else : (j : ℕ) → (j ≡ i → ⊥) → SecondAt j
     second-else j d = rw (removing-other (g .marks .voters) i j d, adding-other (g .marks .equivocators) i j d) (f .sender j)
@@ -187,7 +191,8 @@ module _ (n : ℕ) (g : Agreement) (f : ValidAgreement n g) where
   }
 
   -- filing a LOG from sender i, whatever the bytes: what holds no log is not filed
-  pub file-valid : (names counts : List ℕ) (base : ℕ) (s : List ℕ) (i : ℕ) → i < n → ValidAgreement n (fileOf g names counts base s i .agreement)
+  pub file-valid : (names counts : List ℕ) (base : ℕ) (s : List ℕ) (i : ℕ) → i < n
+      → ValidAgreement n (fileOf g names counts base s i .agreement)
   file-valid names counts base s i here =
       file-cases g names counts base s i (ValidAgreement n) f
       (λ q. second-valid i (q .few) here)

@@ -37,7 +37,8 @@ kept-valid n beat g f = either (logsShut (g .marks .view) beat) (λ t. rw t (emp
 
 kept-proposals-valid : (n beat : ℕ) (g : Proposals) → ValidProposals n g → ValidProposals n (keptProposals beat g)
 unfolding keptProposals
-kept-proposals-valid n beat g f = either (proposalsShut (g .marks .view) beat) (λ t. rw t (empty-proposals-valid n 0 (omega arith))) (λ t. rw t f)
+kept-proposals-valid n beat g f =
+    either (proposalsShut (g .marks .view) beat) (λ t. rw t (empty-proposals-valid n 0 (omega arith))) (λ t. rw t f)
 
 module _ (b : Bench) (f : Valid b) where
   pub begun-valid : (beat : ℕ) → beat ≤ lastBeat → Valid (begunBench b beat)

@@ -1,5 +1,5 @@
--- The proposals stay within their limits: with nothing filed, after each change of them, and so after filing. Their arrays keep their 32 places
--- (`sized`). Assumes nothing.
+-- The proposals stay within their limits: with nothing filed, after each change of them, and so after filing. Their arrays keep their 32
+-- places (`sized`). Assumes nothing.
 use Prim.Native.Nat.{ℕ, _≤_, _<_}
 use native.Mathlib.Omega.{arith}
 use mathlib.Core.List.{List}
@@ -36,7 +36,8 @@ module _ (n : ℕ) (g : Proposals) (f : ValidProposals n g) where
     -- sender i's first proposal
     module _ (k priority : ℕ) (few : k ≤ mostBlocks) where
       abbrev ProposalAt : ℕ → Type 0
-      ProposalAt j = ValidProposer n j (getD (set (g .lengths) i k) j 0) (member (adding (g .marks .filed) i) j) (member (g .marks .aside) j)
+      ProposalAt j = ValidProposer n j (getD (set (g .lengths) i k) j 0) (member (adding (g .marks .filed) i) j)
+          (member (g .marks .aside) j)
 
       proposal-here : ProposalAt i
       proposal-here =

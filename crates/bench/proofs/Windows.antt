@@ -1,4 +1,5 @@
--- The calendar and the layout in numbers, and when a message is taken (document 01, "Schedules small enough to draw"): computed. Assumes nothing.
+-- The calendar and the layout in numbers, and when a message is taken (document 01, "Schedules small enough to draw"): computed. Assumes
+-- nothing.
 use Prim.Native.Nat.{ℕ, _+_}
 use mathlib.Core.List.{List, [], _∷_, map}
 use mathlib.Core.Path.{_≡_, refl}
@@ -90,6 +91,7 @@ rows =
 pub rows-hold : map (λ (r : Row). receiveOf (held (gathering (r .beat + 1)) leastLent leastLent) (bytesOf (r .message)) .answer .reply) rows
     ≡ map (λ (r : Row). r .reply) rows
 unfolding
-    receiveOf fileMessage fileOf fileProposalOf agreementOf proposalsOf judgedBy firstFailure malformed meaningIn anyOf numberAt numbersAt inStep bytesOf messageBytes
+    receiveOf fileMessage fileOf fileProposalOf agreementOf proposalsOf judgedBy firstFailure malformed meaningIn anyOf numberAt numbersAt
+    inStep bytesOf messageBytes
     bytesFor bytesForEach namesOf countsOf beyond beyondAgreement beyondProposals anyPlace weigh member adding removing
 rows-hold = refl

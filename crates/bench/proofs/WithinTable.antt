@@ -1,5 +1,5 @@
--- Odd records within their limits, which no call refuses by 9: what each call answers on them, and the record afterwards. One table, computed.
--- Assumes nothing.
+-- Odd records within their limits, which no call refuses by 9: what each call answers on them, and the record afterwards. One table,
+-- computed. Assumes nothing.
 use Prim.Native.Nat.{ℕ, _+_}
 use mathlib.Core.List.{List, [], _∷_, _++_, map}
 use mathlib.Core.Option.{Option, some, none}
@@ -22,8 +22,10 @@ use Rattle.agreement.specs.Heard.{voteAmong}
 use Rattle.bench.specs.Layout.{leastLent}
 use Rattle.bench.specs.Calls.{Reply, done, took, acted, State, Step}
 use Rattle.bench.specs.Acts.{propose, vote, makes}
-use Rattle.bench.specs.Record.{agreementOf, proposalsOf, withAgreement, withGatheringOver, withDecided, anyPlace, beyondAgreement, beyondProposals, beyond, Bench}
-use Rattle.bench.specs.ByRecord.{keptAgreement, keptProposals, beginOf, fileMessage, receiveOf, usedOf, settled, snappedBy, changed, actedOf, actOf}
+use Rattle.bench.specs.Record.{agreementOf, proposalsOf, withAgreement, withGatheringOver, withDecided, anyPlace, beyondAgreement}
+use Rattle.bench.specs.Record.{beyondProposals, beyond, Bench}
+use Rattle.bench.specs.ByRecord.{keptAgreement, keptProposals, beginOf, fileMessage, receiveOf, usedOf, settled, snappedBy, changed}
+use Rattle.bench.specs.ByRecord.{actedOf, actOf}
 use Rattle.bench.proofs.LimitTable.{nobody, only, long, agreement, proposals}
 use Rattle.bench.proofs.Order.{held}
 
@@ -69,7 +71,14 @@ quiet = emptyProposals 0
 -- of bench 2 alone: its log of view v has k blocks, and these are the flags of the snapshots, both of which are of it
 abbrev flagged : ℕ → ℕ → ℕ → ℕ → Agreement
 flagged v k hasone hastwo = record {
-  marks = record { view = v; voters = only 2; equivocators = nobody; one = record { senders = only 2; taken = hasone }; two = record { senders = only 2; taken = hastwo } };
+  marks = record {
+    view = v;
+    voters = only 2;
+    equivocators = nobody;
+    one = record { senders = only 2; taken = hasone };
+    two =
+        record { senders = only 2; taken = hastwo };
+  };
   lengths = long 2 k;
 }
 
@@ -133,8 +142,10 @@ rows =
     ∷ acts (bench 1 blank blank (proposals 3 (long 2 1) (only 2) nobody)) (some (log 4 0 []))
     (rest 1 (withFirst (emptyAgreement 0) 4 0) blank (proposals 3 (long 2 1) (only 2) nobody))
     -- A view of the future survives Begin, in whichever slot; an open one stays up to its last beat, and is forgotten past it.
-    ∷ begins (bench 0 (heard 7 1) (heard 8 1) (proposals 9 (long 2 1) (only 2) nobody)) 5 (bench 5 (heard 7 1) (heard 8 1) (proposals 9 (long 2 1) (only 2) nobody))
-    ∷ begins (bench 0 (heard 1 1) (heard 1 1) (proposals 1 (long 2 1) (only 2) nobody)) 5 (bench 5 (heard 1 1) (heard 1 1) (proposals 1 (long 2 1) (only 2) nobody))
+    ∷ begins (bench 0 (heard 7 1) (heard 8 1) (proposals 9 (long 2 1) (only 2) nobody)) 5
+    (bench 5 (heard 7 1) (heard 8 1) (proposals 9 (long 2 1) (only 2) nobody))
+    ∷ begins (bench 0 (heard 1 1) (heard 1 1) (proposals 1 (long 2 1) (only 2) nobody)) 5
+    (bench 5 (heard 1 1) (heard 1 1) (proposals 1 (long 2 1) (only 2) nobody))
     ∷ begins (bench 0 (heard 1 1) (heard 1 1) (proposals 1 (long 2 1) (only 2) nobody)) 6 (bench 6 (heard 1 1) (heard 1 1) quiet)
     ∷ begins (bench 0 (heard 1 1) (heard 1 1) quiet) 10 (bench 10 (heard 1 1) (heard 1 1) quiet)
     ∷ begins (bench 0 (heard 1 1) (heard 2 1) quiet) 11 (bench 11 (emptyAgreement 0) (heard 2 1) quiet)
@@ -192,7 +203,9 @@ stated r = (r .reply, r .bench)
 pub rows-hold : map found rows ≡ map stated rows
 unfolding
     beginOf receiveOf judgedBy firstFailure malformed meaningIn choice.anyOf actOf actedOf changed snappedBy settled usedOf fileMessage
-    keptAgreement keptProposals agreementOf proposalsOf withAgreement anyPlace beyondAgreement beyondProposals beyond propose vote makes voteAmong keptProposal
-    fileProposalOf bestOf gradeAmong fileOf overlong maySupport supports hasGrade under prefixes candidates longer longestOf longest weigh member adding removing logAt messageBytes
+    keptAgreement keptProposals agreementOf proposalsOf withAgreement anyPlace beyondAgreement beyondProposals beyond propose vote makes
+    voteAmong keptProposal
+    fileProposalOf bestOf gradeAmong fileOf overlong maySupport supports hasGrade under prefixes candidates longer longestOf longest weigh
+    member adding removing logAt messageBytes
     bytesOf part put numberAt numbersAt bytesFor bytesForEach isPrefix sameLog inStep namesOf countsOf
 rows-hold = refl

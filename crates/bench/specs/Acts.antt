@@ -1,5 +1,5 @@
--- What an act makes and decides, given what it sees of the agreement before (document 01, "Calendar of acts"). Both descriptions of a bench, by
--- its history and by its record, use `makes` and `decides`; they differ in where an act sees what it sees. Assumes nothing.
+-- What an act makes and decides, given what it sees of the agreement before (document 01, "Calendar of acts"). Both descriptions of a
+-- bench, by its history and by its record, use `makes` and `decides`; they differ in where an act sees what it sees. Assumes nothing.
 use Prim.Native.Nat.{ℕ}
 use mathlib.Core.Bool.{Bool, true, not, _&&_}
 use mathlib.Core.List.{List, [], _∷_, _++_}
@@ -13,8 +13,8 @@ use Rattle.message.specs.Logs.{Block, Log, isPrefix}
 use Rattle.message.specs.Message.{Meaning, logMessage, proposalMessage, bytesOf}
 use Rattle.bench.specs.Calendar.{lastView, Act, proposing, voting, deciding, snapping}
 
--- What an act of view v sees: the log that it uses, which is the longest with the grade of GA v-1 that it reads, if there is one (the candidate, the
--- lock or the decision); and which log to vote for, given the lock.
+-- What an act of view v sees: the log that it uses, which is the longest with the grade of GA v-1 that it reads, if there is one (the
+-- candidate, the lock or the decision); and which log to vote for, given the lock.
 pub record Seen : Type 0 where
   pub used : Option Log
   pub choose : Log → Log
@@ -80,7 +80,8 @@ pub record Stand : Type 0 where
   pub log : Log
   pub parted : Bool
 
--- A decision that extends the standing log replaces it; one that is a prefix of it changes nothing; one in conflict sets the mark, for good.
+-- A decision that extends the standing log replaces it; one that is a prefix of it changes nothing; one in conflict sets the mark, for
+-- good.
 unfoldable pub settle : Stand → Option Log → Stand
 settle st none = st
 settle st (some L) =

@@ -1,5 +1,5 @@
--- What each call promises: its answer, read as document 01's, the record, both lists and the outgoing buffer, each by an equation (document 01,
--- "How far a promise must reach", and the last lines of the list of forms). Assumes nothing.
+-- What each call promises: its answer, read as document 01's, the record, both lists and the outgoing buffer, each by an equation (document
+-- 01, "How far a promise must reach", and the last lines of the list of forms). Assumes nothing.
 use Prim.Native.Nat.{ℕ}
 use mathlib.Core.List.{List}
 use mathlib.Core.Option.{some, none}

@@ -1,6 +1,6 @@
--- The four calls by the record and the lent lists, for every record and every pair of lists: what the code is proved equal to, and what demand 3 is
--- proved of (document 01, "Four calls", "Calendar of acts", "From the input", "From the state"). In each, the first failure is given, and a refusal
--- leaves record, lists and buffer as they were. Assumes nothing.
+-- The four calls by the record and the lent lists, for every record and every pair of lists: what the code is proved equal to, and what
+-- demand 3 is proved of (document 01, "Four calls", "Calendar of acts", "From the input", "From the state"). In each, the first failure is
+-- given, and a refusal leaves record, lists and buffer as they were. Assumes nothing.
 use Prim.Native.Nat.{ℕ, zero, suc, _+_}
 use mathlib.Core.List.{List, [], _∷_, _++_}
 use mathlib.Core.Option.{Option, some, none}
@@ -24,7 +24,8 @@ use Rattle.bench.specs.Calendar.{logsShut, proposalsShut, viewOf, placeI
 use Rattle.bench.specs.Calls.{refused, done, took, acted, State, Core, coreOf, Answer, Opening, Step}
 use Rattle.bench.specs.Causes.{openCauses, beginCauses, receiveCauses, actCauses}
 use Rattle.bench.specs.Acts.{Seen, usedFirst, usedOfGrade, isView, makes, decides, Stand, outAfter}
-use Rattle.bench.specs.Record.{freshBench, agreementOf, proposalsOf, beatOf, notAboveLast, idle, withAgreement, withProposals, withGatheringOver, withDecided, withParted, beyond, Bench}
+use Rattle.bench.specs.Record.{freshBench, agreementOf, proposalsOf, beatOf, notAboveLast, idle, withAgreement, withProposals}
+use Rattle.bench.specs.Record.{withGatheringOver, withDecided, withParted, beyond, Bench}
 
 -- refused by k: nothing else changes
 abbrev pub refuse : State → List ℕ → ℕ → Step
@@ -162,8 +163,8 @@ standOf c = record { log = decidedLog c; parted = isYes (c .bench .parted) }
 abbrev pub standing : State → Stand
 standing s = standOf (coreOf s)
 
--- A decision does to record and lists what `settle` does to what stands (Settling: decision-settled): it extends the decided log and replaces it, is
--- a prefix of it and changes nothing, or sets the mark.
+-- A decision does to record and lists what `settle` does to what stands (Settling: decision-settled): it extends the decided log and
+-- replaces it, is a prefix of it and changes nothing, or sets the mark.
 unfoldable pub settled : Core → Option Log → Core
 settled c none = c
 settled c (some L) =
@@ -191,8 +192,8 @@ snapped (some k) v c = snappedBy k v c
 unfoldable pub changed : Core → ℕ → Act → Core
 changed c v a = snapped (snapshotTaken a) v (settled c (decides (seenOf c v a) a))
 
--- What is made is filed from its bytes, and not judged by 1 to 6 again: names are used as they stand in the lists. Within the limits of 9 the bytes
--- hold a log.
+-- What is made is filed from its bytes, and not judged by 1 to 6 again: names are used as they stand in the lists. Within the limits of 9
+-- the bytes hold a log.
 abbrev pub withMade : Core → Option Meaning → Core
 withMade c none = c
 withMade c (some m) = fileMessage c (bytesOf m) m .held

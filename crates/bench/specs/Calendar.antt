@@ -1,5 +1,5 @@
--- The calendar (document 01, "Words", "Receive" and "Calendar of acts"): each beat of a view is named here, and in specs/ nowhere else. A beat
--- is one bound on the delay of a message, the field's Δ; a view is a round. Assumes nothing.
+-- The calendar (document 01, "Words", "Receive" and "Calendar of acts"): each beat of a view is named here, and in specs/ nowhere else. A
+-- beat is one bound on the delay of a message, the field's Δ; a view is a round. Assumes nothing.
 use Prim.Native.Nat.{ℕ, zero, suc, _+_, _*_, _/_, _%_}
 use mathlib.Core.Bool.{Bool, _&&_}
 use mathlib.Core.Option.{Option, some, none}
@@ -45,7 +45,8 @@ viewOf b = b / 4
 abbrev pub placeIn : ℕ → ℕ
 placeIn b = b % 4
 
--- The rows of the calendar of acts: proposing at 4v, voting at 4v+1, deciding (and snapshot one) at 4v+2, snapping (snapshot two only) at 4v+3.
+-- The rows of the calendar of acts: proposing at 4v, voting at 4v+1, deciding (and snapshot one) at 4v+2, snapping (snapshot two only) at
+-- 4v+3.
 pub data Act : Type 0 where
   proposing voting deciding snapping : Act
 

@@ -1,6 +1,7 @@
--- The causes of refusal of the four calls, in the order of document 01 ("From the input", "From the state": "First failure is given"). Each of
--- the two descriptions of a bench hands in what it finds by itself: whether a beat is above the last begun, whether a gathering is under way, and
--- at which beat. 9 and 8 are of the record and its lists, and stand before these where a call is made on a record. Assumes nothing.
+-- The causes of refusal of the four calls, in the order of document 01 ("From the input", "From the state": "First failure is given"). Each
+-- of the two descriptions of a bench hands in what it finds by itself: whether a beat is above the last begun, whether a gathering is under
+-- way, and at which beat. 9 and 8 are of the record and its lists, and stand before these where a call is made on a record. Assumes
+-- nothing.
 use Prim.Native.Nat.{ℕ}
 use mathlib.Core.Bool.{Bool, not}
 use mathlib.Core.List.{List, [], _∷_, _++_}

@@ -1,6 +1,6 @@
--- One bench, the field's validator, by its history: what it is to answer, make and decide, worked out from its list of calls and from nothing else
--- (document 01, the words on demand 3 after the calendar). Nothing is forgotten here; a view that is no longer open is read by no later act. Assumes
--- nothing.
+-- One bench, the field's validator, by its history: what it is to answer, make and decide, worked out from its list of calls and from
+-- nothing else (document 01, the words on demand 3 after the calendar). Nothing is forgotten here; a view that is no longer open is read by
+-- no later act. Assumes nothing.
 use Prim.Native.Nat.{ℕ, zero, suc}
 use mathlib.Core.Bool.{Bool, true, false, not, _||_}
 use mathlib.Core.List.{List, [], _∷_}
@@ -23,7 +23,8 @@ use Rattle.bench.specs.Acts.{Seen, usedFirst, usedOfGrade, makes, outAft
 
 -- ---- the history
 
--- An Act, not refused: its beat, the LOGs taken or made before it, what it made, and the log it had to decide (even where that changes nothing).
+-- An Act, not refused: its beat, the LOGs taken or made before it, what it made, and the log it had to decide (even where that changes
+-- nothing).
 pub record ActRecord : Type 0 where
   pub beat : ℕ
   pub heard : List Content
@@ -55,7 +56,7 @@ orZero (some b) = b
 abbrev pub beatNow : History → ℕ
 beatNow p = orZero (p .last)
 
--- ---- refusals: 9 no-eight-or-nine arises here, and 8 at Open only
+-- ---- refusals: 9 never arises here, and 8 at Open only
 
 -- Open: 7, 8
 unfoldable pub openRefusal : Seat → Lent → Option ℕ
@@ -127,7 +128,8 @@ seenAt S p v a = record { used = usedAt S p v a; choose = voteAmong (S .terms .n
 -- what an Act makes and decides at the beat that it is
 unfoldable pub madeBy : Seat → History → Block → ℕ → Option Meaning
 madeBy S p block priority =
-    makes (S .own) (viewOf (beatNow p)) block priority (seenAt S p (viewOf (beatNow p)) (actAt (placeIn (beatNow p)))) (actAt (placeIn (beatNow p)))
+    makes (S .own) (viewOf (beatNow p)) block priority (seenAt S p (viewOf (beatNow p)) (actAt (placeIn (beatNow p))))
+    (actAt (placeIn (beatNow p)))
 
 unfoldable pub decidedBy : Seat → History → Option Log
 decidedBy S p = decides (seenAt S p (viewOf (beatNow p)) (actAt (placeIn (beatNow p)))) (actAt (placeIn (beatNow p)))

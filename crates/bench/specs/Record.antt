@@ -1,5 +1,5 @@
--- The bench's record: the agreement of a view in it, its beat, its changes, and its limits (document 01, "Four calls" and refusals 9, 20 and 22).
--- All for every record, odd ones too. Assumes nothing.
+-- The bench's record: the agreement of a view in it, its beat, its changes, and its limits (document 01, "Four calls" and refusals 9, 20
+-- and 22). All for every record, odd ones too. Assumes nothing.
 use Prim.Native.Nat.{ℕ, _+_, _-_}
 use mathlib.Core.Bool.{Bool, not, _&&_, _||_}
 use mathlib.Core.List.{List}
@@ -33,7 +33,8 @@ pub record Bench : Type 0 where
   pub decided : ℕ
   pub parted : ℕ
 
--- the parts that the code keeps: the head, the blocks of each log in the even and in the odd agreement, those proposed, and their priorities
+-- the parts that the code keeps: the head, the blocks of each log in the even and in the odd agreement, those proposed, and their
+-- priorities
 abbrev pub benchFrom : Head → List ℕ → List ℕ → List ℕ → List ℕ → Bench
 benchFrom h even odd proposed priorities = record {
   n = h .n;
@@ -65,7 +66,8 @@ freshBench n own = record {
   parted = 0;
 }
 
--- ---- whose agreement: that of view v stands in the slot of v's parity, and only where the slot's view is v; else nothing of view v is filed
+-- ---- whose agreement: that of view v stands in the slot of v's parity, and only where the slot's view is v; else nothing of view v is
+-- filed
 
 abbrev pub ofView : Agreement → ℕ → Agreement
 ofView g v = pick (eqb (g .marks .view) v) g (emptyAgreement v)

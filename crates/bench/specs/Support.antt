@@ -1,5 +1,5 @@
--- What the act of a beat reads of the agreement before: the log it uses, and how many support it among how many senders (document 01, "Counting in
--- one agreement" and "Calendar of acts"). No call depends on it; it serves whoever shows a schedule. Assumes nothing.
+-- What the act of a beat reads of the agreement before: the log it uses, and how many support it among how many senders (document 01,
+-- "Counting in one agreement" and "Calendar of acts"). No call depends on it; it serves whoever shows a schedule. Assumes nothing.
 use Prim.Native.Nat.{ℕ, zero, suc, _-_, _≤_}
 use mathlib.Core.List.{[]}
 use mathlib.Core.Option.{Option, some, none}
@@ -17,8 +17,8 @@ use Rattle.bench.specs.Record.{agreementOf, Bench}
 use Rattle.bench.specs.ByRecord.{usedOf}
 use Rattle.bench.specs.declared.Counted.{Counted}
 
--- The agreement that the act reads, of the view before. View 0 has none before it, and snapshot two reads none: an empty one, in which nobody is
--- heard (crate calls, SupportCases: read-first, read-late).
+-- The agreement that the act reads, of the view before. View 0 has none before it, and snapshot two reads none: an empty one, in which
+-- nobody is heard (crate calls, SupportCases: read-first, read-late).
 unfoldable pub agreementBefore : Bench → ℕ → Agreement
 agreementBefore b zero = emptyAgreement 0
 agreementBefore b (suc u) = agreementOf b u

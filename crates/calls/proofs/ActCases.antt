@@ -37,7 +37,18 @@ after-second (suc (suc (suc p))) a b c = refl
 
 -- the head once the gathering is over
 abbrev overHead : Head → Head
-overHead h = record { next = h .next; n = h .n; own = h .own; decided = h .decided; parted = h .parted; gathering = 0; even = h .even; odd = h .odd; shown = h .shown }
+overHead h = record {
+  next = h .next;
+  n = h .n;
+  own = h .own;
+  decided = h .decided;
+  parted = h .parted;
+  gathering = 0;
+  even = h .even;
+  odd =
+      h .odd;
+  shown = h .shown;
+}
 
 module _ (h : Head) (e o p q names counts out : List ℕ) where
   abbrev s : Core
@@ -90,15 +101,19 @@ module _ (h : Head) (e o p q names counts out : List ℕ) where
 
   module _ (block : Block) (priority beat : ℕ) (now : beat ≡ beatOf (bare h)) (r : Head) (e′ o′ : List ℕ) where
     abbrev Done : List ℕ → List ℕ → Type 0
-    Done ns cs = MakeGives (actedOf (over s) block priority out (viewOf (beatOf (bare h))) (actAt (placeIn (beatOf (bare h))))) makings.Nothing (benchFrom r e′ o′ p q) ns cs out
+    Done ns cs = MakeGives
+        (actedOf (over s) block priority out (viewOf (beatOf (bare h))) (actAt (placeIn (beatOf (bare h))))) makings.Nothing
+        (benchFrom r e′ o′ p q) ns cs out
 
-    pub decided : (c : Head) (ns cs : List ℕ) → placeIn beat ≡ 2 → Decides (overHead h) e o names counts (viewOf beat) c ns cs → Snaps c e o (viewOf beat) false r e′ o′ → Done ns cs
+    pub decided : (c : Head) (ns cs : List ℕ) → placeIn beat ≡ 2 → Decides (overHead h) e o names counts (viewOf beat) c ns cs
+        → Snaps c e o (viewOf beat) false r e′ o′ → Done ns cs
     decided c ns cs y d w =
         row block priority beat makings.Nothing (benchFrom r e′ o′ p q) ns cs out now deciding (ap actAt y)
         (acts-none t block priority out (viewOf beat) deciding (benchFrom r e′ o′ p q) ns cs (closes (viewOf beat) c r e′ o′ ns cs d w)
         (makes-deciding (h .own) (viewOf beat) block priority (seenOf t (viewOf beat) deciding)))
 
-    pub snapped-two : (placeIn beat ≡ 0 → ⊥) → (placeIn beat ≡ 1 → ⊥) → (placeIn beat ≡ 2 → ⊥) → Snaps (overHead h) e o (viewOf beat) true r e′ o′ → Done names counts
+    pub snapped-two : (placeIn beat ≡ 0 → ⊥) → (placeIn beat ≡ 1 → ⊥) → (placeIn beat ≡ 2 → ⊥)
+        → Snaps (overHead h) e o (viewOf beat) true r e′ o′ → Done names counts
     snapped-two x y z w =
         row block priority beat makings.Nothing (benchFrom r e′ o′ p q) names counts out now snapping (after-second (placeIn beat) x y z)
         (acts-none t block priority out (viewOf beat) snapping (benchFrom r e′ o′ p q) names counts (takes (viewOf beat) r e′ o′ w)
@@ -106,7 +121,8 @@ module _ (h : Head) (e o p q names counts out : List ℕ) where
 
 -- what the act asks, of its tests
 pub act-tested : (h : Head) (e o p q names counts out : List ℕ) (r : Bool) → r ≡ beyond (benchFrom h e o p []) → r ≡ false
-    → (z : Bool) → z ≡ tooFewPlaces names counts → z ≡ false → mostBytes ≤ length out → Tested (coreWith (benchFrom h e o p q) names counts) out
+    → (z : Bool) → z ≡ tooFewPlaces names counts → z ≡ false → mostBytes ≤ length out
+    → Tested (coreWith (benchFrom h e o p q) names counts) out
 act-tested h e o p q names counts out r x y z f u l = record {
   usable = is-usable (benchFrom h e o p q) names counts r z (x ∙ beyond-of h e o p q) y f u;
   room = le-ltb (length out) mostBytes l;
@@ -147,8 +163,10 @@ module _ (h : Head) (e o p q names counts out : List ℕ) (block : Block) (prior
           act-by-22 v = act-by 22 (inr (sym whole ∙ y, inr (sym f ∙ u, inr (le-ltb (length out) mostBytes l, inl (sym g ∙ v, refl)))))
 
           pub acts-by : (a : Made) (c : Bench) (ns cs out′ : List ℕ) → i ≡ false
-              → MakeGives (actedOf (over (coreOf held)) block priority out (viewOf (beatOf (bare h))) (actAt (placeIn (beatOf (bare h))))) a c ns cs out′
+              → MakeGives (actedOf (over (coreOf held)) block priority out (viewOf (beatOf (bare h))) (actAt (placeIn (beatOf (bare h))))) a
+              c ns cs out′
               → ActGives (actOf held block priority out) a c ns cs out′
           acts-by a c ns cs out′ v w =
-              rw (act-judged held block priority out .does (no-failure (actRows held out) (sym whole ∙ y, (sym f ∙ u, (le-ltb (length out) mostBytes l, (sym g ∙ v, tt))))))
+              rw (act-judged held block priority out .does
+              (no-failure (actRows held out) (sym whole ∙ y, (sym f ∙ u, (le-ltb (length out) mostBytes l, (sym g ∙ v, tt))))))
               (record { answered = w .answered; bench = w .bench; nameList = w .nameList; countList = w .countList; buffer = w .buffer })

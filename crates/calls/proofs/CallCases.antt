@@ -38,20 +38,27 @@ module _ (n own : ℕ) (names counts : List ℕ) (b : Bench) (r : Bool) (e : r �
 
   pub open-by-7 : r ≡ true → b ≡ freshBench 0 0 → Opened (starts.Refused 7)
   open-by-7 t h =
-      gives (notOpened 7) (starts.Refused 7) (open-refused n own (lentAs names counts) 7 (first-failure (openCauses n own (lentAs names counts)) 7 (inl (sym e ∙ t, refl)))) (start-refused 7) h
+      gives (notOpened 7) (starts.Refused 7)
+      (open-refused n own (lentAs names counts) 7 (first-failure (openCauses n own (lentAs names counts)) 7 (inl (sym e ∙ t, refl))))
+      (start-refused 7) h
 
   module _ (t : r ≡ false) (q : Bool) (f : q ≡ tooFewPlaces names counts) where
     pub open-by-8 : q ≡ true → b ≡ freshBench 0 0 → Opened (starts.Refused 8)
     open-by-8 u h =
-        gives (notOpened 8) (starts.Refused 8) (open-refused n own (lentAs names counts) 8 (first-failure (openCauses n own (lentAs names counts)) 8 (inr (sym e ∙ t, inl (sym f ∙ u, refl))))) (start-refused 8) h
+        gives (notOpened 8) (starts.Refused 8)
+        (open-refused n own (lentAs names counts) 8
+        (first-failure (openCauses n own (lentAs names counts)) 8 (inr (sym e ∙ t, inl (sym f ∙ u, refl))))) (start-refused 8) h
 
     pub opened : q ≡ false → b ≡ freshBench n own → Opened starts.Done
     opened u h =
-        gives (record { reply = done; bench = freshBench n own }) starts.Done (open-done n own (lentAs names counts) (no-failure (openCauses n own (lentAs names counts)) (sym e ∙ t, (sym f ∙ u, tt)))) start-done h
+        gives (record { reply = done; bench = freshBench n own }) starts.Done
+        (open-done n own (lentAs names counts) (no-failure (openCauses n own (lentAs names counts)) (sym e ∙ t, (sym f ∙ u, tt))))
+        start-done h
 
 -- ---- a call that is judged on the core alone
 
-on-core : (s : State) (cs : List Cause) (x : Effect) → judgedBy cs (refuse s []) (stepBy s x) ≡ stepBy s (judgedBy cs (untaken (coreOf s)) x)
+on-core : (s : State) (cs : List Cause) (x : Effect)
+    → judgedBy cs (refuse s []) (stepBy s x) ≡ stepBy s (judgedBy cs (untaken (coreOf s)) x)
 on-core s cs x =
     judged (untaken (coreOf s)) x (λ (e : Effect). judgedBy cs (refuse s []) (stepBy s x) ≡ stepBy s e) cs
     (judged-refused (refuse s []) (stepBy s x) cs)
@@ -98,7 +105,8 @@ module _ (h : Head) (e o p q names counts : List ℕ) (r : Bool) (x : r ≡ beyo
 
           pub begins : (c : Bench) → i ≡ false → c ≡ begunBench (benchFrom h e o p q) beat → Begun starts.Done c
           begins c v w =
-              rw (begin-judged held beat .does (no-failure (beginRows held beat) (sym whole ∙ y, (sym f ∙ u, (le-ltb lastBeat beat l, (sym g ∙ v, tt))))))
+              rw (begin-judged held beat .does
+              (no-failure (beginRows held beat) (sym whole ∙ y, (sym f ∙ u, (le-ltb lastBeat beat l, (sym g ∙ v, tt))))))
               (record { answered = start-done; bench = w; nameList = refl; countList = refl })
 
   -- ---- Receive

@@ -32,10 +32,32 @@ use Rattle.calls.proofs.SeeingLaws.{used-whole, seen-none, seen-at}
 -- ---- the head after a decision
 
 abbrev decidedHead : Head → ℕ → Head
-decidedHead h k = record { next = h .next; n = h .n; own = h .own; decided = k; parted = h .parted; gathering = h .gathering; even = h .even; odd = h .odd; shown = h .shown }
+decidedHead h k = record {
+  next = h .next;
+  n = h .n;
+  own = h .own;
+  decided = k;
+  parted = h .parted;
+  gathering = h .gathering;
+  even = h .even;
+  odd =
+      h .odd;
+  shown = h .shown;
+}
 
 abbrev partedHead : Head → Head
-partedHead h = record { next = h .next; n = h .n; own = h .own; decided = h .decided; parted = 1; gathering = h .gathering; even = h .even; odd = h .odd; shown = h .shown }
+partedHead h = record {
+  next = h .next;
+  n = h .n;
+  own = h .own;
+  decided = h .decided;
+  parted = 1;
+  gathering = h .gathering;
+  even = h .even;
+  odd =
+      h .odd;
+  shown = h .shown;
+}
 
 -- ---- a log of k blocks at place a is decided
 
@@ -63,7 +85,8 @@ module _ (h : Head) (names counts : List ℕ) (a k : ℕ) (u : Settling h names 
     settle-extends t done ns cs s =
         let ok : (leb (a + k) decidedPlace && within names counts decidedPlace k) ≡ true =
         rw (le-leb (a + k) decidedPlace (u .before .0), decided-within names counts (u .decidable .lists) k (u .before .1)) in
-        let w = stored-inside (leb (a + k) decidedPlace && within names counts decidedPlace k) names counts decidedPlace newLog done ns cs ok s in
+        let w = stored-inside
+        (leb (a + k) decidedPlace && within names counts decidedPlace k) names counts decidedPlace newLog done ns cs ok s in
         record {
           whole = λ x y p q.
               rw (settled-extends (coreWith (benchFrom h x y p q) names counts) newLog (sym extends-is ∙ t))
@@ -98,7 +121,8 @@ module _ (h : Head) (e o names counts : List ℕ) (v : ℕ) (r : Grade)
   given p q = record { log = w .log ∙ used-whole h e o p q names counts v deciding; placed = w .placed }
 
   -- settle asks that it ends before the decided log's place
-  pub decision-settling : (i k at : ℕ) → r ≡ Longest i k → at ≡ placeOf (logsPlace (v - 1)) i → Decidable h names counts → Settling h names counts at k
+  pub decision-settling : (i k at : ℕ) → r ≡ Longest i k → at ≡ placeOf (logsPlace (v - 1)) i → Decidable h names counts
+      → Settling h names counts at k
   decision-settling i k at t p d = record { decidable = d; before = seen-at _ names counts v r w i k at t p .before }
 
   pub decide-none : r ≡ Nothing → Decides h e o names counts v h names counts
@@ -109,7 +133,8 @@ module _ (h : Head) (e o names counts : List ℕ) (v : ℕ) (r : Grade)
 
   pub decide-some : (i k at : ℕ) (c : Head) (ns cs : List ℕ) → r ≡ Longest i k → at ≡ placeOf (logsPlace (v - 1)) i
       → Settles h names counts (some (logAt names counts at k)) c ns cs → Decides h e o names counts v c ns cs
-  decide-some i k at c ns cs t p l = record { whole = λ x y. rw (← seen-at _ names counts v r (given x y) i k at t p .log) (l .whole e o x y) }
+  decide-some i k at c ns cs t p l =
+      record { whole = λ x y. rw (← seen-at _ names counts v r (given x y) i k at t p .log) (l .whole e o x y) }
 
 -- ---- snapshots
 
@@ -118,7 +143,8 @@ module _ (h : Head) (e o : List ℕ) (v : ℕ) (second : Bool) where
   pub snap-past : lastView < v → Snaps h e o v second h e o
   snap-past l = record { whole = λ p q names counts. sym (snapped-late _ v (coreWith (benchFrom h e o p q) names counts) l) }
 
-  taken : (m m′ : Marks) (ls : List ℕ) (b c : Bench) → v ≤ lastView → agreementFrom m ls ≡ agreementOf b v → m′ ≡ snapped (pick second two one) m
+  taken : (m m′ : Marks) (ls : List ℕ) (b c : Bench) → v ≤ lastView → agreementFrom m ls ≡ agreementOf b v
+      → m′ ≡ snapped (pick second two one) m
       → ((g : Agreement) → agreementFrom m′ ls ≡ g → c ≡ withAgreement b v g)
       → (names counts : List ℕ) → coreWith c names counts ≡ snappedBy (pick second two one) v (coreWith b names counts)
   taken m m′ ls b c l g s kept names counts =
@@ -132,12 +158,14 @@ module _ (h : Head) (e o : List ℕ) (v : ℕ) (second : Bool) where
     snap-even t g = record {
       whole = λ p q names counts.
           let b = benchFrom h e o p q in
-          taken m m′ ls b (benchFrom (evenHead h m′) ls o p q) l (g ∙ read-even x v y b t) s (keep-even x v y b t (agreementFrom m′ ls)) names counts;
+          taken m m′ ls b (benchFrom (evenHead h m′) ls o p q) l (g ∙ read-even x v y b t) s
+          (keep-even x v y b t (agreementFrom m′ ls)) names counts;
     }
 
     pub snap-odd : x ≡ false → agreementFrom m ls ≡ ofView (agreementFrom (h .odd) o) v → Snaps h e o v second (oddHead h m′) e ls
     snap-odd t g = record {
       whole = λ p q names counts.
           let b = benchFrom h e o p q in
-          taken m m′ ls b (benchFrom (oddHead h m′) e ls p q) l (g ∙ read-odd x v y b t) s (keep-odd x v y b t (agreementFrom m′ ls)) names counts;
+          taken m m′ ls b (benchFrom (oddHead h m′) e ls p q) l (g ∙ read-odd x v y b t) s
+          (keep-odd x v y b t (agreementFrom m′ ls)) names counts;
     }

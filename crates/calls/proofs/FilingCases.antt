@@ -38,13 +38,46 @@ word-known a e = rw e taken-known
 -- ---- the head with another agreement, or other proposals
 
 abbrev pub evenHead : Head → Marks → Head
-evenHead h m = record { next = h .next; n = h .n; own = h .own; decided = h .decided; parted = h .parted; gathering = h .gathering; even = m; odd = h .odd; shown = h .shown }
+evenHead h m = record {
+  next = h .next;
+  n = h .n;
+  own = h .own;
+  decided = h .decided;
+  parted = h .parted;
+  gathering = h .gathering;
+  even = m;
+  odd =
+      h .odd;
+  shown = h .shown;
+}
 
 abbrev pub oddHead : Head → Marks → Head
-oddHead h m = record { next = h .next; n = h .n; own = h .own; decided = h .decided; parted = h .parted; gathering = h .gathering; even = h .even; odd = m; shown = h .shown }
+oddHead h m = record {
+  next = h .next;
+  n = h .n;
+  own = h .own;
+  decided = h .decided;
+  parted = h .parted;
+  gathering = h .gathering;
+  even =
+      h .even;
+  odd = m;
+  shown = h .shown;
+}
 
 abbrev shownHead : Head → Shown → Head
-shownHead h m = record { next = h .next; n = h .n; own = h .own; decided = h .decided; parted = h .parted; gathering = h .gathering; even = h .even; odd = h .odd; shown = m }
+shownHead h m = record {
+  next = h .next;
+  n = h .n;
+  own = h .own;
+  decided = h .decided;
+  parted = h .parted;
+  gathering = h .gathering;
+  even = h .even;
+  odd =
+      h .odd;
+  shown = m;
+}
 
 -- ---- by the parity of the view: what is read of the record, and what is stored
 
@@ -71,7 +104,8 @@ place-odd : (v : ℕ) → isEven v ≡ false → span ≡ logsPlace v
 place-odd v t = rw t
 
 -- in a slot, once what it holds of another view is gone
-module _ (names counts bytes : List ℕ) (v i : ℕ) (m k : Marks) (ls : List ℕ) (a : Answer) (w : Taken) (answered : takenReply w ≡ took (wordOf a)) (ls′ ns cs : List ℕ)
+module _ (names counts bytes : List ℕ) (v i : ℕ) (m k : Marks) (ls : List ℕ) (a : Answer) (w : Taken)
+    (answered : takenReply w ≡ took (wordOf a)) (ls′ ns cs : List ℕ)
     (marked : k ≡ markedBy m a i) where
   abbrev f : Filed
   f = record { answer = a; marks = k }
@@ -83,7 +117,8 @@ module _ (names counts bytes : List ℕ) (v i : ℕ) (m k : Marks) (ls : List �
   log-filed g b c base at e o d kept =
       let x : Files (fileOf (agreementOf b v) names counts (logsPlace v) bytes i) f ls′ ns cs =
       subst (λ (y : Agreement). Files (fileOf y names counts (logsPlace v) bytes i) f ls′ ns cs) (e ∙ o)
-      (subst (λ (p : ℕ). Files (fileOf (agreementFrom m ls) names counts p bytes i) f ls′ ns cs) at (filed-by m k ls names counts base bytes i a ls′ ns cs d marked)) in
+      (subst (λ (p : ℕ). Files (fileOf (agreementFrom m ls) names counts p bytes i) f ls′ ns cs) at
+      (filed-by m k ls names counts base bytes i a ls′ ns cs d marked)) in
       record {
         answered = answered ∙ ap took (x .answered);
         bench = kept _ (λ j. record { marks = x .marks j; lengths = x .lengthList j });
@@ -99,7 +134,8 @@ module _ (names counts bytes : List ℕ) (v i : ℕ) (m k : Marks) (ls : List �
       whole = λ t o. record {
         whole = λ p s.
             let b = benchFrom h e o p s in
-            log-filed (agreementFrom (h .even) e) b (benchFrom (evenHead h k) ls′ o p s) 0 (place-even v t) g (read-even true v (sym t) b refl) d
+            log-filed (agreementFrom (h .even) e) b (benchFrom (evenHead h k) ls′ o p s) 0 (place-even v t) g
+            (read-even true v (sym t) b refl) d
             (keep-even true v (sym t) b refl (agreementFrom k ls′));
       };
     }
@@ -111,7 +147,8 @@ module _ (names counts bytes : List ℕ) (v i : ℕ) (m k : Marks) (ls : List �
       whole = λ t e. record {
         whole = λ p s.
             let b = benchFrom h e o p s in
-            log-filed (agreementFrom (h .odd) o) b (benchFrom (oddHead h k) e ls′ p s) span (place-odd v t) g (read-odd false v (sym t) b refl) d
+            log-filed (agreementFrom (h .odd) o) b (benchFrom (oddHead h k) e ls′ p s) span (place-odd v t) g
+            (read-odd false v (sym t) b refl) d
             (keep-odd false v (sym t) b refl (agreementFrom k ls′));
       };
     }
@@ -127,10 +164,12 @@ module _ (h : Head) (p q names counts bytes : List ℕ) (v i priority : ℕ) (m 
     whole = λ e o.
         let b = benchFrom h e o p q in
         let x : FilesProposal (fileProposalOf (proposalsOf b v) names counts proposalsPlace bytes i priority) f ls′ ps′ ns cs =
-        subst (λ (a : Proposals). FilesProposal (fileProposalOf a names counts proposalsPlace bytes i priority) f ls′ ps′ ns cs) (g ∙ sym (proposals-slot b v)) d in
+        subst (λ (a : Proposals). FilesProposal (fileProposalOf a names counts proposalsPlace bytes i priority) f ls′ ps′ ns cs)
+        (g ∙ sym (proposals-slot b v)) d in
         record {
           answered = answered ∙ ap took (x .answered);
-          bench = ap {A = Proposals} {B = Bench} (withProposals b) (λ j. record { marks = x .marks j; lengths = x .lengthList j; priorities = x .priorityList j });
+          bench = ap {A = Proposals} {B = Bench} (withProposals b)
+              (λ j. record { marks = x .marks j; lengths = x .lengthList j; priorities = x .priorityList j });
           nameList = x .nameList;
           countList = x .countList;
         };

@@ -82,7 +82,8 @@ module _ (n : ℕ) (m : Marks) where
       let z = beyond-both n (m .one .senders) (m .two .senders) in
       let w = pb ∙ sym (any-place (λ (i : ℕ). member (m .voters) i && member (m .equivocators) i)) in
       rw (x, y, z, w, exceeding c pc)
-      (in-a-row (anyPlace (namesBeyond n (m .voters))) (anyPlace (namesBeyond n (m .equivocators))) (anyPlace (namesBeyond n (m .one .senders))) (anyPlace (namesBeyond n (m .two .senders))) _)
+      (in-a-row (anyPlace (namesBeyond n (m .voters))) (anyPlace (namesBeyond n (m .equivocators)))
+      (anyPlace (namesBeyond n (m .one .senders))) (anyPlace (namesBeyond n (m .two .senders))) _)
     where
       in-a-row : (p q r s t : Bool) → (((p || q) || (r || s)) || t) ≡ (p || (q || (r || (s || t))))
       in-a-row true q r s t = refl
@@ -101,7 +102,8 @@ module _ (n : ℕ) (m : Marks) (lengths : List ℕ) where
       (any-or (namesBeyond n (m .equivocators)) _ ∙ ap (λ (t : Bool). anyPlace (namesBeyond n (m .equivocators)) || t)
       (any-or (namesBeyond n (m .one .senders)) _ ∙ ap (λ (t : Bool). anyPlace (namesBeyond n (m .one .senders)) || t)
       (any-or (namesBeyond n (m .two .senders)) _ ∙ ap (λ (t : Bool). anyPlace (namesBeyond n (m .two .senders)) || t)
-      (any-or (λ (i : ℕ). member (m .voters) i && member (m .equivocators) i) _ ∙ ap (λ (t : Bool). anyPlace (λ (i : ℕ). member (m .voters) i && member (m .equivocators) i) || t)
+      (any-or (λ (i : ℕ). member (m .voters) i && member (m .equivocators) i) _
+      ∙ ap (λ (t : Bool). anyPlace (λ (i : ℕ). member (m .voters) i && member (m .equivocators) i) || t)
       (any-or (outside m (m .one .senders)) (outside m (m .two .senders))))))))
 
   beyond-agreement : beyondAgreement n (agreementFrom m lengths) ≡ (ltb lastView (m .view) || (anyPlace (tooLong lengths) || badSets n m))
@@ -109,21 +111,25 @@ module _ (n : ℕ) (m : Marks) (lengths : List ℕ) where
 
 module _ (n : ℕ) (m : Shown) where
   pub beyond-shown : (b : Bool) → b ≡ ltb 0 (count mostSenders (λ (i : ℕ). leb n i && member (bitOr (m .filed) (m .aside)) i))
-      → (ltb lastView (m .view) || b) ≡ (ltb lastView (m .view) || (anyPlace (namesBeyond n (m .filed)) || anyPlace (namesBeyond n (m .aside))))
+      → (ltb lastView (m .view) || b)
+      ≡ (ltb lastView (m .view) || (anyPlace (namesBeyond n (m .filed)) || anyPlace (namesBeyond n (m .aside))))
   beyond-shown b f = ap (λ (t : Bool). ltb lastView (m .view) || t) (reaches-both n (m .filed) (m .aside) b f)
 
   beyond-proposals : (lengths : List ℕ)
       → beyondProposals n (proposalsFrom m lengths [])
-      ≡ (ltb lastView (m .view) || (anyPlace (tooLong lengths) || (anyPlace (namesBeyond n (m .filed)) || anyPlace (namesBeyond n (m .aside)))))
+      ≡ (ltb lastView (m .view) ||
+      (anyPlace (tooLong lengths) || (anyPlace (namesBeyond n (m .filed)) || anyPlace (namesBeyond n (m .aside)))))
   beyond-proposals lengths =
       proposals-causes n (proposalsFrom m lengths [])
       ∙ ap (λ (t : Bool). ltb lastView (m .view) || t)
-      (any-or (tooLong lengths) _ ∙ ap (λ (t : Bool). anyPlace (tooLong lengths) || t) (any-or (namesBeyond n (m .filed)) (namesBeyond n (m .aside))))
+      (any-or (tooLong lengths) _
+      ∙ ap (λ (t : Bool). anyPlace (tooLong lengths) || t) (any-or (namesBeyond n (m .filed)) (namesBeyond n (m .aside))))
 
 -- ---- the causes together
 
 -- the lengths asked first
-lengths-first : (x y z a b c d f g : Bool) → ((x || (y || z)) || ((a || b) || ((c || d) || (f || g)))) ≡ ((a || (x || b)) || ((c || (y || d)) || (f || (z || g))))
+lengths-first : (x y z a b c d f g : Bool)
+    → ((x || (y || z)) || ((a || b) || ((c || d) || (f || g)))) ≡ ((a || (x || b)) || ((c || (y || d)) || (f || (z || g))))
 lengths-first true y z true b c d f g = refl
 lengths-first true y z false b c d f g = refl
 lengths-first false true z true b c d f g = refl
@@ -140,19 +146,26 @@ lengths-first false false false a b c d f g = refl
 
 pub beyond-limits : (h : Head) (e o p : List ℕ) (range long even odd proposals : Bool) → range ≡ outOfRange (h .n) (h .own)
     → long ≡ (ltb 0 (count mostSenders (λ (i : ℕ). ltb mostBlocks (getD e i 0)))
-    || (ltb 0 (count mostSenders (λ (i : ℕ). ltb mostBlocks (getD o i 0))) || ltb 0 (count mostSenders (λ (i : ℕ). ltb mostBlocks (getD p i 0)))))
+    || (ltb 0 (count mostSenders (λ (i : ℕ). ltb mostBlocks (getD o i 0))) || ltb 0
+    (count mostSenders (λ (i : ℕ). ltb mostBlocks (getD p i 0)))))
     → even ≡ (ltb lastView (h .even .view) || badSets (h .n) (h .even)) → odd ≡ (ltb lastView (h .odd .view) || badSets (h .n) (h .odd))
-    → proposals ≡ (ltb lastView (h .shown .view) || (anyPlace (namesBeyond (h .n) (h .shown .filed)) || anyPlace (namesBeyond (h .n) (h .shown .aside))))
-    → (range || (ltb (lastBeat + 1) (h .next) || (ltb mostBlocks (h .decided) || (long || (even || (odd || proposals)))))) ≡ beyond (benchFrom h e o p [])
+    → proposals ≡ (ltb lastView (h .shown .view) ||
+    (anyPlace (namesBeyond (h .n) (h .shown .filed)) || anyPlace (namesBeyond (h .n) (h .shown .aside))))
+    → (range || (ltb (lastBeat + 1) (h .next) || (ltb mostBlocks (h .decided) || (long || (even || (odd || proposals)))))) ≡ beyond
+    (benchFrom h e o p [])
 beyond-limits h e o p range long even odd proposals a l b c d =
     let all : (long || (even || (odd || proposals)))
-    ≡ (beyondAgreement (h .n) (agreementFrom (h .even) e) || (beyondAgreement (h .n) (agreementFrom (h .odd) o) || beyondProposals (h .n) (proposalsFrom (h .shown) p []))) =
+    ≡ (beyondAgreement (h .n) (agreementFrom (h .even) e) ||
+    (beyondAgreement (h .n) (agreementFrom (h .odd) o) || beyondProposals (h .n) (proposalsFrom (h .shown) p []))) =
     (λ i.
-    (l ∙ (λ j. sym (any-place (tooLong e)) j || (sym (any-place (tooLong o)) j || sym (any-place (tooLong p)) j))) i || (b i || (c i || d i)))
-    ∙ lengths-first (anyPlace (tooLong e)) (anyPlace (tooLong o)) (anyPlace (tooLong p)) (ltb lastView (h .even .view)) (badSets (h .n) (h .even))
+    (l ∙ (λ j. sym (any-place (tooLong e)) j || (sym (any-place (tooLong o)) j || sym (any-place (tooLong p)) j))) i ||
+    (b i || (c i || d i)))
+    ∙ lengths-first (anyPlace (tooLong e)) (anyPlace (tooLong o)) (anyPlace (tooLong p)) (ltb lastView (h .even .view))
+    (badSets (h .n) (h .even))
     (ltb lastView (h .odd .view)) (badSets (h .n) (h .odd)) (ltb lastView (h .shown .view))
     (anyPlace (namesBeyond (h .n) (h .shown .filed)) || anyPlace (namesBeyond (h .n) (h .shown .aside)))
-    ∙ sym (λ i. beyond-agreement (h .n) (h .even) e i || (beyond-agreement (h .n) (h .odd) o i || beyond-proposals (h .n) (h .shown) p i)) in
+    ∙ sym (λ i. beyond-agreement (h .n) (h .even) e i || (beyond-agreement (h .n) (h .odd) o i || beyond-proposals (h .n) (h .shown) p i))
+    in
     (λ i. a i || (ltb (lastBeat + 1) (h .next) || (ltb mostBlocks (h .decided) || all i))) ∙ sym (beyond-causes (benchFrom h e o p []))
 
 -- priorities do not matter

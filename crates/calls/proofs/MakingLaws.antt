@@ -19,7 +19,8 @@ use Rattle.bench.specs.Acts.{propose, vote, makes}
 use Rattle.bench.specs.ByRecord.{changed, usedOf, seenOf, actedOf}
 use Rattle.bench.specs.Answers.{coreWith}
 use Rattle.bench.specs.Tested.{Tested, Before}
-use Rattle.calls.specs.Steps.{foundLog, FoundBefore, Finds, ballot, ballotOf, Making, MakeGives, madeStep, LogMade, ProposalMade, noBlock}
+use Rattle.calls.specs.Steps.{foundLog, FoundBefore, Finds, ballot, ballotOf, Making, MakeGives, madeStep, LogMade, ProposalMade}
+use Rattle.calls.specs.Steps.{noBlock}
 use Rattle.agreement.specs.Limits.{placeOf}
 use Rattle.agreement.specs.Grades.{Gives}
 use Rattle.agreement.specs.declared.Grade.{Grade}
@@ -28,7 +29,8 @@ use Rattle.bench.specs.Layout.{logsPlace}
 use Rattle.bench.specs.Record.{Bench, benchFrom}
 use Rattle.bench.specs.declared.Head.{Head}
 use Rattle.bench.proofs.Replies.{made-nothing}
-use Rattle.bench.proofs.ActLaws.{voted-none, voted-some, proposed-none, proposed-unnamed, proposed-full, proposed-some, makes-proposing, makes-voting, makes-late, changed-proposing, changed-voting, acted-by}
+use Rattle.bench.proofs.ActLaws.{voted-none, voted-some, proposed-none, proposed-unnamed, proposed-full, proposed-some, makes-proposing}
+use Rattle.bench.proofs.ActLaws.{makes-voting, makes-late, changed-proposing, changed-voting, acted-by}
 use Rattle.calls.proofs.SeeingLaws.{used-whole, seen-none, seen-at}
 use Rattle.bench.specs.declared.ActedHead.{ActedHead}
 use Rattle.bench.specs.declared.Made.{Made}
@@ -119,7 +121,8 @@ module _ (h : Head) (e o p q names counts out : List ℕ) (v : ℕ) where
   candidate g w = record { log = w .log ∙ used-whole h e o p q names counts v proposing; placed = w .placed }
 
   pub propose-making : (name : ℕ) → (ltb lastView v || eqb name 0) ≡ false → (g : Grade) → Candidate g
-      → (i k a : ℕ) → g ≡ Longest i k → a ≡ placeOf (logsPlace (v - 1)) i → k < mostBlocks → Tested s out → (Making names counts out v a k) × (k < mostBlocks)
+      → (i k a : ℕ) → g ≡ Longest i k → a ≡ placeOf (logsPlace (v - 1)) i → k < mostBlocks → Tested s out
+      → (Making names counts out v a k) × (k < mostBlocks)
   propose-making name x g w i k a y z few t = (asked a k t (early v name x) (seen-at _ names counts v g w i k a y z .before), few)
 
   module _ (name count priority : ℕ) where
@@ -154,7 +157,8 @@ module _ (h : Head) (e o p q names counts out : List ℕ) (v : ℕ) where
 
       module _ (i k : ℕ) (y : g ≡ Longest i k) where
         propose-at : (a : ℕ) → a ≡ placeOf (logsPlace (v - 1)) i
-            → makes (h .own) v block priority (seenOf s v proposing) proposing ≡ propose (h .own) v block priority (some (logAt names counts a k))
+            → makes (h .own) v block priority (seenOf s v proposing) proposing ≡ propose (h .own) v block priority
+            (some (logAt names counts a k))
         propose-at a z = propose-made (At a k) (seen-at (usedOf s v proposing) names counts v g (candidate g w) i k a y z)
 
         named : eqb name 0 ≡ false

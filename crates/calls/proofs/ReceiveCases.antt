@@ -19,7 +19,8 @@ use Rattle.bench.specs.declared.Taken.the-variants as takings
 use Rattle.bench.specs.declared.ReceivedHead.{ReceivedHead}
 use Rattle.bench.proofs.Replies.{taken-refused}
 use Rattle.bench.proofs.ActLaws.{file-log, file-proposal}
-use Rattle.calls.specs.Steps.{bare, LogFiled, LogTaken, ProposalFiled, ProposalTaken, receives, receivesAs, EvenFiled, OddFiled, TakeGives, untaken}
+use Rattle.calls.specs.Steps.{bare, LogFiled, LogTaken, ProposalFiled, ProposalTaken, receives, receivesAs, EvenFiled, OddFiled}
+use Rattle.calls.specs.Steps.{TakeGives, untaken}
 use Rattle.bench.specs.Causes.{messageCauses}
 use Rattle.bench.proofs.Refusals.{message-refused, message-read}
 
@@ -33,9 +34,13 @@ receive-by b names counts k t o = rw o (record { answered = taken-refused k; ben
 module _ (h : Head) (names counts bytes : List ℕ) (head : message.Head) (beat : ℕ) (r : Bool) (now : beat ≡ beatOf (bare h)) where
   module _ (e o : List ℕ) (q : r ≡ logWindow (head .view) beat) where
     pub log-shut : r ≡ false → LogTaken h e o names counts bytes head (record { answer = takings.Refused 21; head = h }) e o names counts
-    log-shut t = record { whole = λ p s. rw (← now, ← q, t) (record { answered = taken-refused 21; bench = refl; nameList = refl; countList = refl }) }
+    log-shut t = record {
+      whole =
+          λ p s. rw (← now, ← q, t) (record { answered = taken-refused 21; bench = refl; nameList = refl; countList = refl });
+    }
 
-    log-taken : (x : ReceivedHead) (e′ o′ ns cs : List ℕ) → r ≡ true → LogFiled h e o names counts bytes (head .view) (head .sender) x e′ o′ ns cs
+    log-taken : (x : ReceivedHead) (e′ o′ ns cs : List ℕ) → r ≡ true
+        → LogFiled h e o names counts bytes (head .view) (head .sender) x e′ o′ ns cs
         → LogTaken h e o names counts bytes head x e′ o′ ns cs
     log-taken x e′ o′ ns cs t f = record { whole = λ p s. rw (← now, ← q, t, file-log) (f .whole p s) }
 
@@ -50,11 +55,14 @@ module _ (h : Head) (names counts bytes : List ℕ) (head : message.Head) (beat 
       odd-taken o′ z f = log-taken x e o′ ns cs t (f .whole (sym u ∙ z) e)
 
   module _ (p s : List ℕ) (priority : ℕ) (q : r ≡ proposalWindow (head .view) beat) where
-    pub proposal-shut : r ≡ false → ProposalTaken h p s names counts bytes head priority (record { answer = takings.Refused 21; head = h }) p s names counts
-    proposal-shut t = record { whole = λ e o. rw (← now, ← q, t) (record { answered = taken-refused 21; bench = refl; nameList = refl; countList = refl }) }
+    pub proposal-shut : r ≡ false
+        → ProposalTaken h p s names counts bytes head priority (record { answer = takings.Refused 21; head = h }) p s names counts
+    proposal-shut t = record
+        { whole = λ e o. rw (← now, ← q, t) (record { answered = taken-refused 21; bench = refl; nameList = refl; countList = refl }) }
 
     pub proposal-taken : (x : ReceivedHead) (p′ s′ ns cs : List ℕ) → r ≡ true
-        → ProposalFiled h p s names counts bytes (head .view) (head .sender) priority x p′ s′ ns cs → ProposalTaken h p s names counts bytes head priority x p′ s′ ns cs
+        → ProposalFiled h p s names counts bytes (head .view) (head .sender) priority x p′ s′ ns cs
+        → ProposalTaken h p s names counts bytes head priority x p′ s′ ns cs
     proposal-taken x p′ s′ ns cs t f = record { whole = λ e o. rw (← now, ← q, t, file-proposal) (f .whole e o) }
 
 -- ---- by what was read
@@ -63,22 +71,27 @@ module _ (h : Head) (e o p s names counts bytes : List ℕ) (m : Message) (q : p
   abbrev b : Bench
   b = benchFrom h e o p s
 
-  pub read-refused : (k : ℕ) → m ≡ answers.Refused k → TakeGives (receives (coreWith b names counts) bytes) (takings.Refused k) b names counts
+  pub read-refused : (k : ℕ) → m ≡ answers.Refused k
+      → TakeGives (receives (coreWith b names counts) bytes) (takings.Refused k) b names counts
   read-refused k r =
       receive-by b names counts k (receives (coreWith b names counts) bytes)
-      (judged-refused (untaken (coreWith b names counts)) (taken (fileMessage (coreWith b names counts) bytes (meaningIn bytes))) (messageCauses (h .n) (beatOf b) bytes) k
+      (judged-refused (untaken (coreWith b names counts)) (taken (fileMessage (coreWith b names counts) bytes (meaningIn bytes)))
+      (messageCauses (h .n) (beatOf b) bytes) k
       (message-refused (h .n) (beatOf b) bytes k (read-as-refused (h .n) bytes m k q r)))
 
   -- read as c: judged by its window
-  read-as : (c : Meaning) → readOf (h .n) bytes ≡ means c → receives (coreWith b names counts) bytes ≡ receivesAs (coreWith b names counts) bytes c
-  read-as c r = message-read (h .n) (beatOf b) bytes (untaken (coreWith b names counts)) (λ x. taken (fileMessage (coreWith b names counts) bytes x)) c r
+  read-as : (c : Meaning) → readOf (h .n) bytes ≡ means c
+      → receives (coreWith b names counts) bytes ≡ receivesAs (coreWith b names counts) bytes c
+  read-as c r = message-read (h .n) (beatOf b) bytes (untaken (coreWith b names counts))
+      (λ x. taken (fileMessage (coreWith b names counts) bytes x)) c r
 
   module _ (head : message.Head) (x : ReceivedHead) (ns cs : List ℕ) where
     pub read-log : (e′ o′ : List ℕ) → m ≡ answers.Log head → LogTaken h e o names counts bytes head x e′ o′ ns cs
         → TakeGives (receives (coreWith b names counts) bytes) (x .answer) (benchFrom (x .head) e′ o′ p s) ns cs
     read-log e′ o′ r f = rw (read-as (logMessage (contentOf bytes head)) (read-as-log (h .n) bytes m head q r)) (f .whole p s)
 
-    pub read-proposal : (p′ s′ : List ℕ) (priority : ℕ) → m ≡ answers.Proposal head priority → ProposalTaken h p s names counts bytes head priority x p′ s′ ns cs
+    pub read-proposal : (p′ s′ : List ℕ) (priority : ℕ) → m ≡ answers.Proposal head priority
+        → ProposalTaken h p s names counts bytes head priority x p′ s′ ns cs
         → TakeGives (receives (coreWith b names counts) bytes) (x .answer) (benchFrom (x .head) e o p′ s′) ns cs
     read-proposal p′ s′ priority r f =
         rw (read-as (proposalMessage (contentOf bytes head) priority) (read-as-proposal (h .n) bytes m head priority q r)) (f .whole e o)

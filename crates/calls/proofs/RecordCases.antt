@@ -24,11 +24,13 @@ module _ (n own : ℕ) (even odd : Marks) (shown : Shown) where
   zeros = replicate mostSenders 0
 
   pub fresh-is : even ≡ emptyMarks 0 → odd ≡ emptyMarks 0 → shown ≡ emptyShown 0
-      → benchFrom (record { next = 0; n = n; own = own; decided = 0; parted = 0; gathering = 0; even = even; odd = odd; shown = shown }) zeros zeros zeros zeros ≡ freshBench n own
+      → benchFrom (record { next = 0; n = n; own = own; decided = 0; parted = 0; gathering = 0; even = even; odd = odd; shown = shown })
+      zeros zeros zeros zeros ≡ freshBench n own
   fresh-is e f g = rw (e, f, g)
 
 module _ (h : Head) (beat : ℕ) (even odd : Marks) (shown : Shown) (e o p q e′ o′ p′ q′ : List ℕ) where
-  pub begun-is : agreementFrom even e′ ≡ keptAgreement beat (agreementFrom (h .even) e) → agreementFrom odd o′ ≡ keptAgreement beat (agreementFrom (h .odd) o)
+  pub begun-is : agreementFrom even e′ ≡ keptAgreement beat (agreementFrom (h .even) e)
+      → agreementFrom odd o′ ≡ keptAgreement beat (agreementFrom (h .odd) o)
       → proposalsFrom shown p′ q′ ≡ keptProposals beat (proposalsFrom (h .shown) p q)
       → benchFrom (record {
         next = beat + 1;
@@ -62,10 +64,12 @@ pub view-is-not : (m k : Marks) (lengths ls : List ℕ) (v : ℕ) → (m .view �
     → agreementFrom k ls ≡ ofView (agreementFrom m lengths) v
 view-is-not m k lengths ls v n e f = rw (ne-eqb (m .view) v n) (λ i. agreementFrom (f i) (e i))
 
-pub proposed-is : (m : Shown) (lengths priorities : List ℕ) (v : ℕ) → m .view ≡ v → proposalsFrom m lengths priorities ≡ proposedIn (proposalsFrom m lengths priorities) v
+pub proposed-is : (m : Shown) (lengths priorities : List ℕ) (v : ℕ) → m .view ≡ v
+    → proposalsFrom m lengths priorities ≡ proposedIn (proposalsFrom m lengths priorities) v
 proposed-is m lengths priorities v e = rw (eq-eqb (m .view) v e)
 
-pub proposed-is-not : (m k : Shown) (lengths priorities ls ps : List ℕ) (v : ℕ) → (m .view ≡ v → ⊥) → ls ≡ replicate mostSenders 0 → ps ≡ replicate mostSenders 0
+pub proposed-is-not : (m k : Shown) (lengths priorities ls ps : List ℕ) (v : ℕ) → (m .view ≡ v → ⊥) → ls ≡ replicate mostSenders 0
+    → ps ≡ replicate mostSenders 0
     → k ≡ emptyShown v → proposalsFrom k ls ps ≡ proposedIn (proposalsFrom m lengths priorities) v
 proposed-is-not m k lengths priorities ls ps v n e f g = rw (ne-eqb (m .view) v n) (λ i. proposalsFrom (g i) (e i) (f i))
 
@@ -81,14 +85,17 @@ module _ (r : Bool) (v : ℕ) (e : r ≡ isEven v) where
 -- ---- what is forgotten
 
 module _ (r : Bool) (beat : ℕ) where
-  pub forgets : (m k : Marks) (lengths ls : List ℕ) → r ≡ logsShut (m .view) beat → r ≡ true → ls ≡ replicate mostSenders 0 → k ≡ emptyMarks 0
+  pub forgets : (m k : Marks) (lengths ls : List ℕ) → r ≡ logsShut (m .view) beat → r ≡ true → ls ≡ replicate mostSenders 0
+      → k ≡ emptyMarks 0
       → agreementFrom k ls ≡ keptAgreement beat (agreementFrom m lengths)
   forgets m k lengths ls e t f g = (λ i. agreementFrom (g i) (f i)) ∙ sym (agreement-forgotten beat (agreementFrom m lengths) (sym e ∙ t))
 
-  pub keeps : (m : Marks) (lengths : List ℕ) → r ≡ logsShut (m .view) beat → r ≡ false → agreementFrom m lengths ≡ keptAgreement beat (agreementFrom m lengths)
+  pub keeps : (m : Marks) (lengths : List ℕ) → r ≡ logsShut (m .view) beat → r ≡ false
+      → agreementFrom m lengths ≡ keptAgreement beat (agreementFrom m lengths)
   keeps m lengths e t = sym (agreement-kept beat (agreementFrom m lengths) (sym e ∙ t))
 
-  pub forgets-proposals : (m k : Shown) (lengths priorities ls ps : List ℕ) → r ≡ proposalsShut (m .view) beat → r ≡ true → ls ≡ replicate mostSenders 0
+  pub forgets-proposals : (m k : Shown) (lengths priorities ls ps : List ℕ) → r ≡ proposalsShut (m .view) beat → r ≡ true
+      → ls ≡ replicate mostSenders 0
       → ps ≡ replicate mostSenders 0 → k ≡ emptyShown 0 → proposalsFrom k ls ps ≡ keptProposals beat (proposalsFrom m lengths priorities)
   forgets-proposals m k lengths priorities ls ps e t f g h =
       (λ i. proposalsFrom (h i) (f i) (g i)) ∙ sym (proposals-forgotten beat (proposalsFrom m lengths priorities) (sym e ∙ t))

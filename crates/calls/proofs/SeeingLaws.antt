@@ -68,7 +68,8 @@ module _ (names counts : List ℕ) (base v k : ℕ) (m : Marks) (lengths : List 
 
 -- the empty log
 empty-given : (names counts : List ℕ) (base : ℕ) → Gives (some []) names counts base (Longest 0 0)
-empty-given names counts base = record { log = ap some (log-empty names counts (placeOf base 0) 0 (omega arith)); placed = (omega arith, omega arith) }
+empty-given names counts base =
+    record { log = ap some (log-empty names counts (placeOf base 0) 0 (omega arith)); placed = (omega arith, omega arith) }
 
 pub grade-read : (place : ℕ) → place ≤ 2 → gradeRead (actAt place) ≡ some place
 grade-read zero l = refl
@@ -112,7 +113,8 @@ module _ (h : Head) (e o names counts : List ℕ) (v place : ℕ) where
   pub used-not-first : v ≡ 0 → 2 ≤ place → Used Nothing
   used-not-first z l = rw (z, usedOf-first, first-unused place l) (record { log = refl; placed = tt })
 
-  module _ (later : v ≡ 0 → ⊥) (few : place ≤ 2) (base : ℕ) (at : base ≡ logsPlace (v - 1)) (x : Bool) (q : x ≡ isEven (v - 1)) (r : Grade) where
+  module _ (later : v ≡ 0 → ⊥) (few : place ≤ 2) (base : ℕ) (at : base ≡ logsPlace (v - 1)) (x : Bool) (q : x ≡ isEven (v - 1))
+      (r : Grade) where
     used-later : gradeOf names counts (logsPlace (v - 1)) (agreementOf b (v - 1)) place ≡ usedOf (coreWith b names counts) v (actAt place)
     used-later = rw (usedOf-later (coreWith b names counts) v (actAt place) later, grade-read place few)
 
@@ -122,10 +124,12 @@ module _ (h : Head) (e o names counts : List ℕ) (v place : ℕ) where
       placed = w .placed;
     }
 
-    pub used-even : x ≡ true → Gives (gradeOf names counts base (ofView (agreementFrom (h .even) e) (v - 1)) place) names counts base r → Used r
+    pub used-even : x ≡ true → Gives (gradeOf names counts base (ofView (agreementFrom (h .even) e) (v - 1)) place) names counts base r
+        → Used r
     used-even t w = given _ (read-even x (v - 1) q b t) w
 
-    pub used-odd : x ≡ false → Gives (gradeOf names counts base (ofView (agreementFrom (h .odd) o) (v - 1)) place) names counts base r → Used r
+    pub used-odd : x ≡ false → Gives (gradeOf names counts base (ofView (agreementFrom (h .odd) o) (v - 1)) place) names counts base r
+        → Used r
     used-odd t w = given _ (read-odd x (v - 1) q b t) w
 
 -- no array but those of the agreements matters to it
@@ -146,7 +150,8 @@ module _ (names counts : List ℕ) (v a k : ℕ) (m : Shown) (p s : List ℕ) wh
 
 -- ---- a grade's answer, as a place in the lists
 
-ends-before : (base i k at : ℕ) → base + span ≤ decidedPlace → i < mostSenders → k ≤ mostBlocks → at ≡ placeOf base i → at + k ≤ decidedPlace
+ends-before : (base i k at : ℕ) → base + span ≤ decidedPlace → i < mostSenders → k ≤ mostBlocks → at ≡ placeOf base i
+    → at + k ≤ decidedPlace
 ends-before base i k at low few short e = omega arith
 
 module _ (o : Option Log) (names counts : List ℕ) (v : ℕ) (r : Grade) (w : Gives o names counts (logsPlace (v - 1)) r) where
@@ -172,69 +177,74 @@ module _ (h : Head) (e o p s names counts : List ℕ) (v : ℕ) where
   pub used-whole : (a : Act) → usedOf (coreWith (benchFrom h e o [] []) names counts) v a ≡ usedOf whole v a
   used-whole a = used-same h e o [] [] p s names counts v a
 
-  module _ (r : Grade) (g : Gives (usedOf (coreWith (benchFrom h e o [] []) names counts) v voting) names counts (logsPlace (v - 1)) r) where
-    pub ballot-none : r ≡ Nothing → Finds (ballotOf whole v) names counts Nowhere
-    ballot-none t = record { log = ap (ballot (seenOf whole v voting .choose)) (seen-none _ names counts v r g t .log ∙ used-whole voting); before = tt }
+  module _ (r : Grade) (g : Gives (usedOf (coreWith (benchFrom h e o [] []) names counts) v voting) names counts (logsPlace (v - 1)) r)
+    where
+      pub ballot-none : r ≡ Nothing → Finds (ballotOf whole v) names counts Nowhere
+      ballot-none t = record
+          { log = ap (ballot (seenOf whole v voting .choose)) (seen-none _ names counts v r g t .log ∙ used-whole voting); before = tt }
 
-    module _ (u : Usable whole) (i k a : ℕ) (t : r ≡ Longest i k) (at : a ≡ placeOf (logsPlace (v - 1)) i)
-        (choice : Choice) (w : Chooses (choiceOf names counts proposalsPlace (proposedIn (proposalsFrom (h .shown) p s) v) a k) choice) where
-      abbrev filed : Proposals
-      filed = proposalsOf (benchFrom h e o p s) v
+      module _ (u : Usable whole) (i k a : ℕ) (t : r ≡ Longest i k) (at : a ≡ placeOf (logsPlace (v - 1)) i)
+          (choice : Choice) (w : Chooses (choiceOf names counts proposalsPlace (proposedIn (proposalsFrom (h .shown) p s) v) a k) choice)
+        where
+          abbrev filed : Proposals
+          filed = proposalsOf (benchFrom h e o p s) v
 
-      lock : Finds (usedOf whole v voting) names counts (At a k)
-      lock = let f = seen-at _ names counts v r g i k a t at in record { log = f .log ∙ used-whole voting; before = f .before }
+          lock : Finds (usedOf whole v voting) names counts (At a k)
+          lock = let f = seen-at _ names counts v r g i k a t at in record { log = f .log ∙ used-whole voting; before = f .before }
 
-      abbrev kept : ℕ → Kept Proposed
-      kept = keptProposal names counts proposalsPlace filed
+          abbrev kept : ℕ → Kept Proposed
+          kept = keptProposal names counts proposalsPlace filed
 
-      abbrev L : Log
-      L = logAt names counts a k
+          abbrev L : Log
+          L = logAt names counts a k
 
-      room : lacksRoom names counts proposalsPlace ≡ false
-      room =
-          let (n, m) = lists-roomy names counts (u .lists) in
-          rw (le-ltb (length names) (proposalsPlace + span) (omega arith), le-ltb (length counts) (proposalsPlace + span) (omega arith))
+          room : lacksRoom names counts proposalsPlace ≡ false
+          room =
+              let (n, m) = lists-roomy names counts (u .lists) in
+              rw (le-ltb (length names) (proposalsPlace + span) (omega arith), le-ltb (length counts) (proposalsPlace + span) (omega arith))
 
-      lock-within : within names counts a k ≡ true
-      lock-within = before-within names counts (u .lists) a k (lock .before)
+          lock-within : within names counts a k ≡ true
+          lock-within = before-within names counts (u .lists) a k (lock .before)
 
-      short : (i : ℕ) → i < mostSenders → getD (filed .lengths) i 0 ≤ mostBlocks
-      short = proposed-short (benchFrom h e o p s) (within-limits (benchFrom h e o p s) (u .limits) .1) v
+          short : (i : ℕ) → i < mostSenders → getD (filed .lengths) i 0 ≤ mostBlocks
+          short = proposed-short (benchFrom h e o p s) (within-limits (benchFrom h e o p s) (u .limits) .1) v
 
-      choice-is : choiceOf names counts proposalsPlace filed a k ≡ chosen choice
-      choice-is = rw proposals-slot (sym (w .sender))
+          choice-is : choiceOf names counts proposalsPlace filed a k ≡ chosen choice
+          choice-is = rw proposals-slot (sym (w .sender))
 
-      -- the log that a choice stands for
-      abbrev votedFor : Choice → Log
-      votedFor x = orLock kept L (chosen x)
+          -- the log that a choice stands for
+          abbrev votedFor : Choice → Log
+          votedFor x = orLock kept L (chosen x)
 
-      voted : some (votedFor choice) ≡ ballotOf whole v
-      voted =
-          ap (λ (o : Option ℕ). some (orLock kept L o)) (sym choice-is)
-          ∙ ap some (choice-voted names counts proposalsPlace filed a k room short lock-within)
-          ∙ ap (ballot (seenOf whole v voting .choose)) (lock .log)
+          voted : some (votedFor choice) ≡ ballotOf whole v
+          voted =
+              ap (λ (o : Option ℕ). some (orLock kept L o)) (sym choice-is)
+              ∙ ap some (choice-voted names counts proposalsPlace filed a k room short lock-within)
+              ∙ ap (ballot (seenOf whole v voting .choose)) (lock .log)
 
-      pub ballot-lock : choice ≡ Lock → Finds (ballotOf whole v) names counts (At a k)
-      ballot-lock c = record { log = ap (λ (x : Choice). some (votedFor x)) (sym c) ∙ voted; before = lock .before }
+          pub ballot-lock : choice ≡ Lock → Finds (ballotOf whole v) names counts (At a k)
+          ballot-lock c = record { log = ap (λ (x : Choice). some (votedFor x)) (sym c) ∙ voted; before = lock .before }
 
-      -- a proposal that is voted for is of the view, so its length stands in the array
-      own-length : (j : ℕ) → choice ≡ Proposal j → getD p j 0 ≡ getD (filed .lengths) j 0
-      own-length j c =
-          rw proposals-slot
-          (either (eqb (h .shown .view) v) (λ q. rw q)
-          (λ q. absurd (Option·none-ne-some j (sym (empty-choice names counts proposalsPlace v a k) ∙ sym (rw q at w .sender) ∙ ap chosen c))))
+          -- a proposal that is voted for is of the view, so its length stands in the array
+          own-length : (j : ℕ) → choice ≡ Proposal j → getD p j 0 ≡ getD (filed .lengths) j 0
+          own-length j c =
+              rw proposals-slot
+              (either (eqb (h .shown .view) v) (λ q. rw q)
+              (λ q. absurd (Option·none-ne-some j
+              (sym (empty-choice names counts proposalsPlace v a k) ∙ sym (rw q at w .sender) ∙ ap chosen c))))
 
-      pub ballot-proposal : (j : ℕ) → choice ≡ Proposal j → Finds (ballotOf whole v) names counts (At (proposalsPlace + mostBlocks * j) (getD p j 0))
-      ballot-proposal j c =
-          let few = best-place choice j (w .place) c in
-          let blocks = short j few in
-          let own = own-length j c in
-          let fit = choice-fits names counts proposalsPlace filed a k j (choice-is ∙ ap chosen c) in
-          record {
-            log =
-                ap (λ (n : ℕ). some (logAt names counts (placeOf proposalsPlace j) n)) own
-                ∙ ap some (sym (fits-log names counts proposalsPlace filed a k j fit))
-                ∙ ap (λ (x : Choice). some (votedFor x)) (sym c)
-                ∙ voted;
-            before = (omega arith, omega arith);
-          }
+          pub ballot-proposal : (j : ℕ) → choice ≡ Proposal j
+              → Finds (ballotOf whole v) names counts (At (proposalsPlace + mostBlocks * j) (getD p j 0))
+          ballot-proposal j c =
+              let few = best-place choice j (w .place) c in
+              let blocks = short j few in
+              let own = own-length j c in
+              let fit = choice-fits names counts proposalsPlace filed a k j (choice-is ∙ ap chosen c) in
+              record {
+                log =
+                    ap (λ (n : ℕ). some (logAt names counts (placeOf proposalsPlace j) n)) own
+                    ∙ ap some (sym (fits-log names counts proposalsPlace filed a k j fit))
+                    ∙ ap (λ (x : Choice). some (votedFor x)) (sym c)
+                    ∙ voted;
+                before = (omega arith, omega arith);
+              }

@@ -40,7 +40,8 @@ module _ (names counts : List ℕ) (base : ℕ) (m : Marks) (lengths : List ℕ)
   abbrev g : Agreement
   g = agreementFrom m lengths
 
-  pub tally-empty : r ≡ Nothing → n ≡ supportersAt names counts base g among 0 0 → n ≡ supportersOf names counts base g among (orEmpty (logOf names counts base r))
+  pub tally-empty : r ≡ Nothing → n ≡ supportersAt names counts base g among 0 0
+      → n ≡ supportersOf names counts base g among (orEmpty (logOf names counts base r))
   tally-empty e h =
       h
       ∙ supporters-placed names counts base g among 0 0 (omega arith) (omega arith)
@@ -59,20 +60,23 @@ module _ (names counts : List ℕ) (base : ℕ) (m : Marks) (lengths : List ℕ)
 
 module _ (names counts : List ℕ) (base v k : ℕ) (m : Marks) (lengths : List ℕ) (grade : Grade) where
   pub counted-view : (s : Snapshot) (x y : ℕ) → m .view ≡ v → s ≡ snapshotFor k m
-      → (x ≡ supportersOf names counts base (agreementFrom m lengths) (s .senders) (orEmpty (logOf names counts base grade))) × (x ≤ mostSenders)
+      → (x ≡ supportersOf names counts base (agreementFrom m lengths) (s .senders) (orEmpty (logOf names counts base grade))) ×
+      (x ≤ mostSenders)
       → (y ≡ count mostSenders (isSender (agreementFrom m lengths))) × (y ≤ mostSenders)
       → CountsIn names counts base (ofView (agreementFrom m lengths) v) k grade (record { grade = grade; supporters = x; senders = y })
   counted-view s x y e q (a, b) (c, d) =
       rw (eq-eqb (m .view) v e)
       (record {
         same = refl;
-        supporters = a ∙ ap (λ (z : Snapshot). supportersOf names counts base (agreementFrom m lengths) (z .senders) (orEmpty (logOf names counts base grade))) q;
+        supporters = a ∙ ap (λ (z : Snapshot). supportersOf names counts base (agreementFrom m lengths) (z .senders)
+            (orEmpty (logOf names counts base grade))) q;
         fewSupporters = b;
         senders = c;
         fewSenders = d;
       })
 
-  pub counted-none : (m .view ≡ v → ⊥) → CountsIn names counts base (ofView (agreementFrom m lengths) v) k grade (record { grade = grade; supporters = 0; senders = 0 })
+  pub counted-none : (m .view ≡ v → ⊥)
+      → CountsIn names counts base (ofView (agreementFrom m lengths) v) k grade (record { grade = grade; supporters = 0; senders = 0 })
   counted-none e =
       rw (ne-eqb (m .view) v e)
       (record {
@@ -109,7 +113,8 @@ module _ (h : Head) (e o names counts : List ℕ) (v place : ℕ) (r : Grade) wh
     abbrev Reads : Counted → Type 0
     Reads c = SupportGives s v (actAt place) c
 
-    nobody : (sendersRead s v (actAt place) ≡ 0) × (supportersRead s v (actAt place) ≡ 0) → Reads (record { grade = r; supporters = 0; senders = 0 })
+    nobody : (sendersRead s v (actAt place) ≡ 0) × (supportersRead s v (actAt place) ≡ 0)
+        → Reads (record { grade = r; supporters = 0; senders = 0 })
     nobody (x, y) = record { grade = u; supporters = sym y; fewSupporters = omega arith; senders = sym x; fewSenders = omega arith }
 
     -- snapshot two reads none
@@ -118,7 +123,8 @@ module _ (h : Head) (e o names counts : List ℕ) (v place : ℕ) (r : Grade) wh
         let x = ap gradeRead (late-act place l) in
         nobody (
           ap (heard (agreementBefore b v)) x ∙ empty-senders 0,
-          ap (behind names counts (logsPlace (v - 1)) (agreementBefore b v) (orEmpty (usedOf s v (actAt place)))) x ∙ empty-supporters names counts _ 0 _ _,
+          ap (behind names counts (logsPlace (v - 1)) (agreementBefore b v) (orEmpty (usedOf s v (actAt place)))) x
+              ∙ empty-supporters names counts _ 0 _ _,
         )
 
     pub read-first : v ≡ 0 → Reads (record { grade = r; supporters = 0; senders = 0 })
@@ -129,7 +135,8 @@ module _ (h : Head) (e o names counts : List ℕ) (v place : ℕ) (r : Grade) wh
         (sym (ap (agreementBefore b) z ∙ before-first b))
         (none-heard names counts (logsPlace (v - 1)) (orEmpty (usedOf s v (actAt place))) (gradeRead (actAt place))))
 
-    module _ (later : v ≡ 0 → ⊥) (few : place ≤ 2) (base : ℕ) (at : base ≡ logsPlace (v - 1)) (x : Bool) (q : x ≡ isEven (v - 1)) (c : Counted) where
+    module _ (later : v ≡ 0 → ⊥) (few : place ≤ 2) (base : ℕ) (at : base ≡ logsPlace (v - 1)) (x : Bool) (q : x ≡ isEven (v - 1))
+        (c : Counted) where
       counted : (g : Agreement) → g ≡ agreementOf b (v - 1) → CountsIn names counts base g place r c → Reads c
       counted g y w =
           let before : g ≡ agreementBefore b v = y ∙ sym (before-later b v later) in
@@ -137,8 +144,10 @@ module _ (h : Head) (e o names counts : List ℕ) (v place : ℕ) (r : Grade) wh
           record {
             grade = subst (Gives (usedOf s v (actAt place)) names counts (logsPlace (v - 1))) (sym (w .same)) u;
             supporters = w .supporters
-                ∙ ap (λ (a : ℕ). supportersOf names counts a g (snapshotFor place (g .marks) .senders) (orEmpty (logOf names counts a r))) at
-                ∙ ap (λ (L : Option Log). supportersOf names counts (logsPlace (v - 1)) g (snapshotFor place (g .marks) .senders) (orEmpty L)) (u .log)
+                ∙ ap (λ (a : ℕ). supportersOf names counts a g (snapshotFor place (g .marks) .senders) (orEmpty (logOf names counts a r)))
+                at
+                ∙ ap (λ (L : Option Log). supportersOf names counts (logsPlace (v - 1)) g (snapshotFor place (g .marks) .senders)
+                (orEmpty L)) (u .log)
                 ∙ ap (λ (a : Agreement). behind names counts (logsPlace (v - 1)) a (orEmpty (usedOf s v (actAt place))) (some place)) before
                 ∙ ap (behind names counts (logsPlace (v - 1)) (agreementBefore b v) (orEmpty (usedOf s v (actAt place)))) asked;
             fewSupporters = w .fewSupporters;
@@ -161,17 +170,21 @@ read-now h e o names counts beat c at w =
     subst (λ (k : ℕ). SupportGives (coreWith (benchFrom h e o [] []) names counts) (viewOf k) (actAt (placeIn k)) c) at w
 
 -- the proposals do not matter
-pub read-whole : (h : Head) (e o p q names counts : List ℕ) (v : ℕ) (a : Act) (c : Counted) → SupportGives (coreWith (benchFrom h e o [] []) names counts) v a c
+pub read-whole : (h : Head) (e o p q names counts : List ℕ) (v : ℕ) (a : Act) (c : Counted)
+    → SupportGives (coreWith (benchFrom h e o [] []) names counts) v a c
     → SupportGives (coreWith (benchFrom h e o p q) names counts) v a c
 read-whole h e o p q names counts v a c w =
-    let x : usedOf (coreWith (benchFrom h e o [] []) names counts) v a ≡ usedOf (coreWith (benchFrom h e o p q) names counts) v a = used-whole h e o p q names counts v a in
+    let x : usedOf (coreWith (benchFrom h e o [] []) names counts) v a ≡ usedOf (coreWith (benchFrom h e o p q) names counts) v a =
+    used-whole h e o p q names counts v a in
     let y : agreementBefore (benchFrom h e o [] []) v ≡ agreementBefore (benchFrom h e o p q) v =
     same-before (benchFrom h e o p q) (benchFrom h e o [] []) v refl refl in
     record {
       grade = record { log = w .grade .log ∙ x; placed = w .grade .placed };
       supporters = w .supporters
-          ∙ ap (λ (L : Option Log). behind names counts (logsPlace (v - 1)) (agreementBefore (benchFrom h e o [] []) v) (orEmpty L) (gradeRead a)) x
-          ∙ ap (λ (g : Agreement). behind names counts (logsPlace (v - 1)) g (orEmpty (usedOf (coreWith (benchFrom h e o p q) names counts) v a)) (gradeRead a)) y;
+          ∙ ap (λ (L : Option Log). behind names counts (logsPlace (v - 1)) (agreementBefore (benchFrom h e o [] []) v) (orEmpty L)
+          (gradeRead a)) x
+          ∙ ap (λ (g : Agreement). behind names counts (logsPlace (v - 1)) g
+          (orEmpty (usedOf (coreWith (benchFrom h e o p q) names counts) v a)) (gradeRead a)) y;
       fewSupporters = w .fewSupporters;
       senders = w .senders ∙ ap (λ (g : Agreement). heard g (gradeRead a)) y;
       fewSenders = w .fewSenders;

@@ -1,4 +1,5 @@
--- A made message: it can be written, is filed from the outgoing buffer as its bytes are, and read back from there as it was meant. Assumes nothing.
+-- A made message: it can be written, is filed from the outgoing buffer as its bytes are, and read back from there as it was meant. Assumes
+-- nothing.
 use Prim.Native.Nat.{ℕ, _+_, _^_, _≤_, _<_}
 use native.Mathlib.Omega.{arith}
 use mathlib.Core.Bool.{Bool, true, false}
@@ -25,7 +26,8 @@ use Rattle.bench.specs.Calls.{acted, Core}
 use Rattle.bench.specs.Record.{agreementOf, proposalsOf, Bench, benchFrom}
 use Rattle.bench.specs.ByRecord.{Outcome, logOutcome, proposalOutcome, fileLog, fileProposal, fileMessage, taken}
 use Rattle.bench.specs.Answers.{contentMade, madeReply, coreWith}
-use Rattle.calls.specs.Steps.{LogFiled, EvenFiled, OddFiled, ProposalFiled, Making, madeStep, LogMade, ProposalMade, TakeGives, MakeGives}
+use Rattle.calls.specs.Steps.{LogFiled, EvenFiled, OddFiled, ProposalFiled, Making, madeStep, LogMade, ProposalMade, TakeGives}
+use Rattle.calls.specs.Steps.{MakeGives}
 use Rattle.bench.specs.declared.Head.{Head}
 use Rattle.bench.specs.declared.Taken.{Taken}
 use Rattle.bench.specs.declared.Made.{Made}
@@ -77,7 +79,8 @@ module _ (out : List ℕ) (m : Meaning) (w : Makeable out m) (s : Core) (v i : �
       (same-holds out m (w .room) (w .few)) (same-log out m (w .room) (w .names) (w .counts)) (proposalsOf (s .bench) v) priority)
 
 -- by its kind
-filed-same : (out : List ℕ) (m : Meaning) → Makeable out m → (s : Core) → fileMessage s (put out 0 (bytesOf m)) m ≡ fileMessage s (bytesOf m) m
+filed-same : (out : List ℕ) (m : Meaning) → Makeable out m → (s : Core)
+    → fileMessage s (put out 0 (bytesOf m)) m ≡ fileMessage s (bytesOf m) m
 filed-same out (logMessage m) w s = rw (file-log s _ m, file-log s _ m) (log-filed out (logMessage m) w s (m .view) (m .sender))
 filed-same out (proposalMessage m priority) w s =
     rw (file-proposal s _ m, file-proposal s _ m) (proposal-filed out (proposalMessage m priority) w s (m .view) (m .sender) priority)
@@ -96,7 +99,8 @@ log-reply out m k w e =
     made-log (put out 0 (bytesOf (logMessage m))) k
     ∙ ap (λ (c : Content). acted (some (logMessage c))) (content-read out (logMessage m) k w e)
 
-proposal-reply : (out : List ℕ) (m : Content) (priority k : ℕ) → Makeable out (proposalMessage m priority) → priority < 256 ^ 8 → length (m .log) ≡ k
+proposal-reply : (out : List ℕ) (m : Content) (priority k : ℕ) → Makeable out (proposalMessage m priority) → priority < 256 ^ 8
+    → length (m .log) ≡ k
     → madeReply (put out 0 (bytesOf (proposalMessage m priority))) (makings.Proposal k) ≡ acted (some (proposalMessage m priority))
 proposal-reply out m priority k w h e =
     let c = content-read out (proposalMessage m priority) k w e in
@@ -106,7 +110,8 @@ proposal-reply out m priority k w h e =
 -- ---- written, filed from the buffer and answered
 
 module _ (s : Core) (out : List ℕ) (m : Meaning) (w : Makeable out m) (a : Made) (o : List ℕ) (y : Taken) (c : Bench) (ns cs : List ℕ) where
-  made-acts : o ≡ put out 0 (bytesOf m) → madeReply (put out 0 (bytesOf m)) a ≡ acted (some m) → TakeGives (taken (fileMessage s o m)) y c ns cs
+  made-acts : o ≡ put out 0 (bytesOf m) → madeReply (put out 0 (bytesOf m)) a ≡ acted (some m)
+      → TakeGives (taken (fileMessage s o m)) y c ns cs
       → MakeGives (madeStep s out m) a c ns cs o
   made-acts e q r =
       let x : fileMessage s o m ≡ fileMessage s (bytesOf m) m = ap (λ (l : List ℕ). fileMessage s l m) e ∙ filed-same out m w s in
@@ -120,7 +125,8 @@ module _ (s : Core) (out : List ℕ) (m : Meaning) (w : Makeable out m) (a : Mad
 
 -- ---- the LOG and the PROPOSAL of the blocks at a place
 
-module _ (h : Head) (names counts out : List ℕ) (v a k : ℕ) (hn : (i : ℕ) → Fits w64 (getD names i 0)) (hc : (i : ℕ) → Fits w16 (getD counts i 0))
+module _ (h : Head) (names counts out : List ℕ) (v a k : ℕ) (hn : (i : ℕ) → Fits w64 (getD names i 0))
+    (hc : (i : ℕ) → Fits w16 (getD counts i 0))
     (r : Bool) (o : List ℕ) (f : ReceivedHead) (ns cs : List ℕ) where
   abbrev L : Log
   L = logAt names counts a k
@@ -132,7 +138,8 @@ module _ (h : Head) (names counts out : List ℕ) (v a k : ℕ) (hn : (i : ℕ) 
   counts-fit = subst (AllBelow (2 ^ 16)) (sym (counts-at names counts a k)) (part-below (2 ^ 16) counts a k (λ i. hc i .fits))
 
   module _ (e d e′ d′ : List ℕ) where
-    log-acts : Making names counts out v a k → Writes (writeLogOf out names counts a k (h .own) v) r o → LogFiled h e d names counts o v (h .own) f e′ d′ ns cs
+    log-acts : Making names counts out v a k → Writes (writeLogOf out names counts a k (h .own) v) r o
+        → LogFiled h e d names counts o v (h .own) f e′ d′ ns cs
         → LogMade h e d names counts out v a k (record { answer = makings.Log k; head = f .head }) e′ d′ ns cs o
     log-acts p x y =
         let m : Content = record { sender = h .own; view = v; log = L } in
@@ -140,10 +147,14 @@ module _ (h : Head) (names counts out : List ℕ) (v a k : ℕ) (hn : (i : ℕ) 
         let few = p .before .1 in
         let w = makeable p (logMessage m) (omega arith) refl names-fit counts-fit in
         let z = written-inside (roomFor out names counts a k k) out (logMessage m) r o (made-room p k few) x .1 in
-        record { whole = λ q s. made-acts (coreWith (benchFrom h e d q s) names counts) out (logMessage m) w (makings.Log k) o (f .answer) (benchFrom (f .head) e′ d′ q s) ns cs z (log-reply out m k w l) (rw file-log (y .whole q s)) }
+        record {
+          whole = λ q s. made-acts (coreWith (benchFrom h e d q s) names counts) out (logMessage m) w (makings.Log k) o (f .answer)
+              (benchFrom (f .head) e′ d′ q s) ns cs z (log-reply out m k w l) (rw file-log (y .whole q s));
+        }
 
   -- by the parity of the view
-  module _ (e d : List ℕ) (p : Making names counts out v a k) (x : Writes (writeLogOf out names counts a k (h .own) v) r o) (y : Bool) (u : y ≡ isEven v) where
+  module _ (e d : List ℕ) (p : Making names counts out v a k) (x : Writes (writeLogOf out names counts a k (h .own) v) r o) (y : Bool)
+      (u : y ≡ isEven v) where
     pub even-acts : (e′ : List ℕ) → y ≡ true → EvenFiled h e names counts o v (h .own) f e′ ns cs
         → LogMade h e d names counts out v a k (record { answer = makings.Log k; head = f .head }) e′ d ns cs o
     even-acts e′ t z = log-acts e d e′ d p x (z .whole (sym u ∙ t) d)
@@ -157,7 +168,8 @@ module _ (h : Head) (names counts out : List ℕ) (v a k : ℕ) (hn : (i : ℕ) 
         → (Making names counts out v a k) × (k < mostBlocks)
         → Writes (writeProposalOf out names counts a k (record { name = name; count = count }) (h .own) v priority) r o
         → ProposalFiled h q s names counts o v (h .own) priority f q′ s′ ns cs
-        → ProposalMade h q s names counts out v a k (record { name = name; count = count }) priority (record { answer = makings.Proposal (k + 1); head = f .head }) q′ s′ ns cs o
+        → ProposalMade h q s names counts out v a k (record { name = name; count = count }) priority
+        (record { answer = makings.Proposal (k + 1); head = f .head }) q′ s′ ns cs o
     proposal-acts name count priority tn tc tp (p, few) x y =
         let block : Block = record { name = name; count = count } in
         let m : Content = record { sender = h .own; view = v; log = L ++ (block ∷ []) } in
@@ -169,9 +181,11 @@ module _ (h : Head) (names counts out : List ℕ) (v a k : ℕ) (hn : (i : ℕ) 
         (subst (AllBelow (2 ^ 16)) (sym (counts-append L (block ∷ [])))
         (append-below (2 ^ 16) (countsOf L) (countsOf (block ∷ [])) counts-fit
         (subst (AllBelow (2 ^ 16)) (sym (counts-one block)) (one-below (2 ^ 16) count (tc .fits))))) in
-        let z = written-inside (roomFor out names counts a k (k + 1)) out (proposalMessage m priority) r o (made-room p (k + 1) (omega arith)) x .1 in
+        let z = written-inside (roomFor out names counts a k (k + 1)) out (proposalMessage m priority) r o
+        (made-room p (k + 1) (omega arith)) x .1 in
         record {
           whole = λ e d.
-              made-acts (coreWith (benchFrom h e d q s) names counts) out (proposalMessage m priority) w (makings.Proposal (k + 1)) o (f .answer) (benchFrom (f .head) e d q′ s′) ns cs z
+              made-acts (coreWith (benchFrom h e d q s) names counts) out (proposalMessage m priority) w (makings.Proposal (k + 1)) o
+              (f .answer) (benchFrom (f .head) e d q′ s′) ns cs z
               (proposal-reply out m priority (k + 1) w (tp .fits) l) (rw file-proposal (y .whole e d));
         }

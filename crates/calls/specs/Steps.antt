@@ -1,4 +1,5 @@
--- What the inner functions ask and promise: steps on the way to the definitions of bench's ByRecord, which they do not add to. Assumes nothing.
+-- What the inner functions ask and promise: steps on the way to the definitions of bench's ByRecord, which they do not add to. Assumes
+-- nothing.
 use Prim.Native.Nat.{ℕ, _≤_}
 use mathlib.Core.Bool.{Bool, true, false, not, _&&_, _||_}
 use lib.Dec.{ltb}
@@ -74,13 +75,15 @@ pub record MakeGives (t : Effect) (a : Made) (b : Bench) (names counts out : Lis
 
 -- ---- a message filed, or taken: whatever the arrays that it does not concern
 
-pub record LogFiled (h : Head) (even odd names counts bytes : List ℕ) (v i : ℕ) (r : ReceivedHead) (even′ odd′ names′ counts′ : List ℕ) : Type 0 where
+pub record LogFiled (h : Head) (even odd names counts bytes : List ℕ) (v i : ℕ) (r : ReceivedHead)
+    (even′ odd′ names′ counts′ : List ℕ) : Type 0 where
   pub whole : (proposed priorities : List ℕ)
       → TakeGives (taken (fileLog (coreWith (benchFrom h even odd proposed priorities) names counts) bytes v i))
       (r .answer) (benchFrom (r .head) even′ odd′ proposed priorities) names′ counts′
 
 -- in the slot of an even view, whatever the other holds; and in that of an odd one
-pub record EvenFiled (h : Head) (even names counts bytes : List ℕ) (v i : ℕ) (r : ReceivedHead) (even′ names′ counts′ : List ℕ) : Type 0 where
+pub record EvenFiled (h : Head) (even names counts bytes : List ℕ) (v i : ℕ) (r : ReceivedHead)
+    (even′ names′ counts′ : List ℕ) : Type 0 where
   pub whole : isEven v ≡ true → (odd : List ℕ) → LogFiled h even odd names counts bytes v i r even′ odd names′ counts′
 
 pub record OddFiled (h : Head) (odd names counts bytes : List ℕ) (v i : ℕ) (r : ReceivedHead) (odd′ names′ counts′ : List ℕ) : Type 0 where
@@ -105,15 +108,18 @@ receives c bytes =
 abbrev pub receivesAs : Core → List ℕ → Meaning → Effect
 receivesAs c bytes m = pick (openTo m (beatOf (c .bench))) (taken (fileMessage c bytes m)) (untaken c 21)
 
-pub record LogTaken (h : Head) (even odd names counts bytes : List ℕ) (head : message.Head) (r : ReceivedHead) (even′ odd′ names′ counts′ : List ℕ) : Type 0 where
+pub record LogTaken (h : Head) (even odd names counts bytes : List ℕ) (head : message.Head) (r : ReceivedHead)
+    (even′ odd′ names′ counts′ : List ℕ) : Type 0 where
   pub whole : (proposed priorities : List ℕ)
       → TakeGives (receivesAs (coreWith (benchFrom h even odd proposed priorities) names counts) bytes (logMessage (contentOf bytes head)))
       (r .answer) (benchFrom (r .head) even′ odd′ proposed priorities) names′ counts′
 
-pub record ProposalTaken (h : Head) (proposed priorities names counts bytes : List ℕ) (head : message.Head) (priority : ℕ) (r : ReceivedHead)
+pub record ProposalTaken (h : Head) (proposed priorities names counts bytes : List ℕ) (head : message.Head) (priority : ℕ)
+    (r : ReceivedHead)
     (proposed′ priorities′ names′ counts′ : List ℕ) : Type 0 where
   pub whole : (even odd : List ℕ)
-      → TakeGives (receivesAs (coreWith (benchFrom h even odd proposed priorities) names counts) bytes (proposalMessage (contentOf bytes head) priority))
+      → TakeGives (receivesAs (coreWith (benchFrom h even odd proposed priorities) names counts) bytes
+      (proposalMessage (contentOf bytes head) priority))
       (r .answer) (benchFrom (r .head) even odd proposed′ priorities′) names′ counts′
 
 -- ---- a log in the lists
@@ -155,15 +161,18 @@ pub record Making (names counts out : List ℕ) (v a k : ℕ) : Type 0 where
   pub early : v ≤ lastView
   pub before : Before a k
 
-pub record LogMade (h : Head) (even odd names counts out : List ℕ) (v a k : ℕ) (r : ActedHead) (even′ odd′ names′ counts′ out′ : List ℕ) : Type 0 where
+pub record LogMade (h : Head) (even odd names counts out : List ℕ) (v a k : ℕ) (r : ActedHead)
+    (even′ odd′ names′ counts′ out′ : List ℕ) : Type 0 where
   pub whole : (proposed priorities : List ℕ)
       → MakeGives (madeStep (coreWith (benchFrom h even odd proposed priorities) names counts) out (logFrom names counts a k (h .own) v))
       (r .answer) (benchFrom (r .head) even′ odd′ proposed priorities) names′ counts′ out′
 
-pub record ProposalMade (h : Head) (proposed priorities names counts out : List ℕ) (v a k : ℕ) (block : Block) (priority : ℕ) (r : ActedHead)
+pub record ProposalMade (h : Head) (proposed priorities names counts out : List ℕ) (v a k : ℕ) (block : Block) (priority : ℕ)
+    (r : ActedHead)
     (proposed′ priorities′ names′ counts′ out′ : List ℕ) : Type 0 where
   pub whole : (even odd : List ℕ)
-      → MakeGives (madeStep (coreWith (benchFrom h even odd proposed priorities) names counts) out (proposalFrom names counts a k block (h .own) v priority))
+      → MakeGives (madeStep (coreWith (benchFrom h even odd proposed priorities) names counts) out
+      (proposalFrom names counts a k block (h .own) v priority))
       (r .answer) (benchFrom (r .head) even odd proposed′ priorities′) names′ counts′ out′
 
 -- ---- record and lists were left so
@@ -185,11 +194,13 @@ pub record Settling (h : Head) (names counts : List ℕ) (a k : ℕ) : Type 0 wh
 -- a decision, whatever the arrays
 pub record Settles (h : Head) (names counts : List ℕ) (o : Option Log) (r : Head) (names′ counts′ : List ℕ) : Type 0 where
   pub whole : (even odd proposed priorities : List ℕ)
-      → Leaves (settled (coreWith (benchFrom h even odd proposed priorities) names counts) o) (benchFrom r even odd proposed priorities) names′ counts′
+      → Leaves (settled (coreWith (benchFrom h even odd proposed priorities) names counts) o)
+      (benchFrom r even odd proposed priorities) names′ counts′
 
 pub record Decides (h : Head) (even odd names counts : List ℕ) (v : ℕ) (r : Head) (names′ counts′ : List ℕ) : Type 0 where
   pub whole : (proposed priorities : List ℕ)
-      → Leaves (settled (coreWith (benchFrom h even odd proposed priorities) names counts) (usedOf (coreWith (benchFrom h even odd proposed priorities) names counts) v deciding))
+      → Leaves (settled (coreWith (benchFrom h even odd proposed priorities) names counts)
+      (usedOf (coreWith (benchFrom h even odd proposed priorities) names counts) v deciding))
       (benchFrom r even odd proposed priorities) names′ counts′
 
 -- a snapshot, whatever the proposals and the lists
@@ -202,7 +213,8 @@ pub record Snaps (h : Head) (even odd : List ℕ) (v : ℕ) (second : Bool) (r :
 
 pub record CountsIn (names counts : List ℕ) (base : ℕ) (g : Agreement) (k : ℕ) (grade : Grade) (r : Counted) : Type 0 where
   pub same : r .grade ≡ grade
-  pub supporters : r .supporters ≡ supportersOf names counts base g (snapshotFor k (g .marks) .senders) (orEmpty (logOf names counts base grade))
+  pub supporters : r .supporters ≡ supportersOf names counts base g (snapshotFor k (g .marks) .senders)
+      (orEmpty (logOf names counts base grade))
   pub fewSupporters : r .supporters ≤ mostSenders
   pub senders : r .senders ≡ count mostSenders (isSender g)
   pub fewSenders : r .senders ≤ mostSenders

@@ -29,9 +29,13 @@ pub(crate) fn act_at(
     priority: u64,
 ) -> ActedHead
     requires { ⌜ Tested (coreWith (benchFrom h (now even) (now odd) (now proposed) (now priorities)) (now names) (now counts)) (now out) ⌝ }
-    ensures { λ r. ⌜ MakeGives (actedOf (over (coreWith (benchFrom h (now (even .entry)) (now (odd .entry)) (now (proposed .entry)) (now (priorities .entry))) (now (names .entry)) (now (counts .entry))))
-        (record { name = name; count = count }) priority (now (out .entry)) (viewOf (beatOf (bare h))) (actAt (placeIn (beatOf (bare h))))) (r .answer)
-        (benchFrom (r .head) (now (even .exit)) (now (odd .exit)) (now (proposed .exit)) (now (priorities .exit))) (now (names .exit)) (now (counts .exit)) (now (out .exit)) ⌝ }
+    ensures { λ r. ⌜ MakeGives
+        (actedOf (over (coreWith (benchFrom h (now (even .entry)) (now (odd .entry)) (now (proposed .entry)) (now (priorities .entry)))
+        (now (names .entry)) (now (counts .entry))))
+        (record { name = name; count = count }) priority (now (out .entry)) (viewOf (beatOf (bare h))) (actAt (placeIn (beatOf (bare h)))))
+        (r .answer)
+        (benchFrom (r .head) (now (even .exit)) (now (odd .exit)) (now (proposed .exit)) (now (priorities .exit))) (now (names .exit))
+        (now (counts .exit)) (now (out .exit)) ⌝ }
 {
     let beat = beat_of(h);
     let v = beat / 4;

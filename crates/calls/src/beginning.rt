@@ -23,7 +23,8 @@ fn kept_agreement(beat: u32, g: Marks, lengths: &mut [u8; 32]) -> Marks
 }
 
 fn kept_proposals(beat: u32, g: Shown, lengths: &mut [u8; 32], priorities: &mut [u64; 32]) -> Shown
-    ensures { λ r. ⌜ proposalsFrom r (now (lengths .exit)) (now (priorities .exit)) ≡ keptProposals beat (proposalsFrom g (now (lengths .entry)) (now (priorities .entry))) ⌝ }
+    ensures { λ r. ⌜ proposalsFrom r (now (lengths .exit)) (now (priorities .exit)) ≡ keptProposals beat
+        (proposalsFrom g (now (lengths .entry)) (now (priorities .entry))) ⌝ }
 {
     if are_proposals_shut(g.view, beat) {
         agreement::clear(lengths);

@@ -32,7 +32,8 @@ fn supporters(
     grade: Grade,
 ) -> usize
     requires { ⌜ Placed grade ⌝ }
-    ensures { λ r. ⌜ (r ≡ supportersOf (now (names .entry)) (now (counts .entry)) base (agreementFrom g (now (lengths .entry))) among (orEmpty (logOf (now (names .entry)) (now (counts .entry)) base grade))) × (r ≤ mostSenders) ⌝ }
+    ensures { λ r. ⌜ (r ≡ supportersOf (now (names .entry)) (now (counts .entry)) base (agreementFrom g (now (lengths .entry))) among
+        (orEmpty (logOf (now (names .entry)) (now (counts .entry)) base grade))) × (r ≤ mostSenders) ⌝ }
 {
     let Grade::Longest(i, k) = grade else {
         return tally::supporters(g, lengths, names, counts, base, among, 0, 0);
@@ -52,7 +53,8 @@ fn counted(
     grade: Grade,
 ) -> Counted
     requires { ⌜ Placed grade ⌝ }
-    ensures { λ r. ⌜ CountsIn (now (names .entry)) (now (counts .entry)) base (ofView (agreementFrom g (now (lengths .entry))) v) k grade r ⌝ }
+    ensures { λ r. ⌜ CountsIn (now (names .entry)) (now (counts .entry)) base
+        (ofView (agreementFrom g (now (lengths .entry))) v) k grade r ⌝ }
 {
     if g.view == v {
         let s = serving(g, k);
@@ -79,7 +81,9 @@ pub(crate) fn read_at(
     v: u32,
     place: u8,
 ) -> Counted
-    ensures { λ r. ⌜ SupportGives (coreWith (benchFrom h (now (even .entry)) (now (odd .entry)) [] []) (now (names .entry)) (now (counts .entry))) v (actAt place) r ⌝ }
+    ensures { λ r. ⌜ SupportGives
+        (coreWith (benchFrom h (now (even .entry)) (now (odd .entry)) [] []) (now (names .entry)) (now (counts .entry))) v (actAt place)
+        r ⌝ }
 {
     let grade = used(h, even, odd, names, counts, v, place);
     let nobody = Counted {

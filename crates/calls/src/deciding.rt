@@ -17,7 +17,8 @@ use message::store::is_prefix;
 // The log of the blocks at place `at` is decided: it extends the decided log, is a prefix of it, or the mark is set.
 fn settle(h: Head, names: &mut [u64], counts: &mut [u16], at: usize, blocks: u8) -> Head
     requires { ⌜ Settling h (now names) (now counts) at blocks ⌝ }
-    ensures { λ r. ⌜ Settles h (now (names .entry)) (now (counts .entry)) (some (logAt (now (names .entry)) (now (counts .entry)) at blocks)) r (now (names .exit)) (now (counts .exit)) ⌝ }
+    ensures { λ r. ⌜ Settles h (now (names .entry)) (now (counts .entry))
+        (some (logAt (now (names .entry)) (now (counts .entry)) at blocks)) r (now (names .exit)) (now (counts .exit)) ⌝ }
 {
     let old = h.decided as usize;
     let new = blocks as usize;
@@ -44,7 +45,8 @@ pub(crate) fn decide(
     v: u32,
 ) -> Head
     requires { ⌜ Decidable h (now names) (now counts) ⌝ }
-    ensures { λ r. ⌜ Decides h (now (even .entry)) (now (odd .entry)) (now (names .entry)) (now (counts .entry)) v r (now (names .exit)) (now (counts .exit)) ⌝ }
+    ensures { λ r. ⌜ Decides h (now (even .entry)) (now (odd .entry)) (now (names .entry)) (now (counts .entry)) v r (now (names .exit))
+        (now (counts .exit)) ⌝ }
 {
     let Grade::Longest(i, blocks) = used(h, even, odd, names, counts, v, 2) else {
         return h;

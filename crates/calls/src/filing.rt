@@ -110,7 +110,8 @@ pub(crate) fn file_proposal(
     sender: u8,
     priority: u64,
 ) -> ReceivedHead
-    ensures { λ r. ⌜ ProposalFiled h (now (proposed .entry)) (now (priorities .entry)) (now (names .entry)) (now (counts .entry)) (now (bytes .entry)) v sender priority r
+    ensures { λ r. ⌜ ProposalFiled h (now (proposed .entry)) (now (priorities .entry)) (now (names .entry)) (now (counts .entry))
+        (now (bytes .entry)) v sender priority r
         (now (proposed .exit)) (now (priorities .exit)) (now (names .exit)) (now (counts .exit)) ⌝ }
 {
     let g = shown_of(h.shown, proposed, priorities, v);
@@ -145,7 +146,8 @@ fn take_log(
     bytes: &[u8],
     head: message::Head,
 ) -> ReceivedHead
-    ensures { λ r. ⌜ LogTaken h (now (even .entry)) (now (odd .entry)) (now (names .entry)) (now (counts .entry)) (now (bytes .entry)) head r
+    ensures { λ r. ⌜ LogTaken h (now (even .entry)) (now (odd .entry)) (now (names .entry)) (now (counts .entry))
+        (now (bytes .entry)) head r
         (now (even .exit)) (now (odd .exit)) (now (names .exit)) (now (counts .exit)) ⌝ }
 {
     if takes_logs(head.view, beat_of(h)) {
@@ -171,7 +173,8 @@ fn take_proposal(
     head: message::Head,
     priority: u64,
 ) -> ReceivedHead
-    ensures { λ r. ⌜ ProposalTaken h (now (proposed .entry)) (now (priorities .entry)) (now (names .entry)) (now (counts .entry)) (now (bytes .entry)) head priority r
+    ensures { λ r. ⌜ ProposalTaken h (now (proposed .entry)) (now (priorities .entry)) (now (names .entry)) (now (counts .entry))
+        (now (bytes .entry)) head priority r
         (now (proposed .exit)) (now (priorities .exit)) (now (names .exit)) (now (counts .exit)) ⌝ }
 {
     if takes_proposals(head.view, beat_of(h)) {
@@ -204,9 +207,12 @@ pub(crate) fn take(
     counts: &mut [u16],
     bytes: &[u8],
 ) -> ReceivedHead
-    ensures { λ r. ⌜ TakeGives (receives (coreWith (benchFrom h (now (even .entry)) (now (odd .entry)) (now (proposed .entry)) (now (priorities .entry))) (now (names .entry)) (now (counts .entry)))
+    ensures { λ r. ⌜ TakeGives
+        (receives (coreWith (benchFrom h (now (even .entry)) (now (odd .entry)) (now (proposed .entry)) (now (priorities .entry)))
+        (now (names .entry)) (now (counts .entry)))
         (now (bytes .entry))) (r .answer)
-        (benchFrom (r .head) (now (even .exit)) (now (odd .exit)) (now (proposed .exit)) (now (priorities .exit))) (now (names .exit)) (now (counts .exit)) ⌝ }
+        (benchFrom (r .head) (now (even .exit)) (now (odd .exit)) (now (proposed .exit)) (now (priorities .exit))) (now (names .exit))
+        (now (counts .exit)) ⌝ }
 {
     let message = message::reader::read(h.n, bytes);
     match message {

@@ -30,7 +30,8 @@ use record::fresh;
 
 // Open: a fresh bench. Refused: 7, 8; the record beside a refusal is of no bench.
 pub fn open(n: u8, own: u8, names: &[u64], counts: &[u16]) -> Started
-    ensures { λ r. ⌜ OpenGives (openOf n own (lentAs (now (names .entry)) (now (counts .entry)))) (lentAs (now (names .entry)) (now (counts .entry))) (r .answer) (benchOf (r .bench)) (now (names .exit)) (now (counts .exit)) ⌝ }
+    ensures { λ r. ⌜ OpenGives (openOf n own (lentAs (now (names .entry)) (now (counts .entry))))
+        (lentAs (now (names .entry)) (now (counts .entry))) (r .answer) (benchOf (r .bench)) (now (names .exit)) (now (counts .exit)) ⌝ }
 {
     if is_out_of_range(n, own) {
         return Started {
@@ -52,7 +53,8 @@ pub fn open(n: u8, own: u8, names: &[u64], counts: &[u16]) -> Started
 
 // Begin: the gathering of a beat starts. Refused: 9, 8, 10, 20.
 pub fn begin(bench: Bench, names: &[u64], counts: &[u16], beat: u32) -> Started
-    ensures { λ r. ⌜ BeginGives (beginOf (stateOf bench (now (names .entry)) (now (counts .entry))) beat) (r .answer) (benchOf (r .bench)) (now (names .exit)) (now (counts .exit)) ⌝ }
+    ensures { λ r. ⌜ BeginGives (beginOf (stateOf bench (now (names .entry)) (now (counts .entry))) beat) (r .answer) (benchOf (r .bench))
+        (now (names .exit)) (now (counts .exit)) ⌝ }
 {
     let mut even = bench.even;
     let mut odd = bench.odd;
@@ -84,7 +86,8 @@ pub fn begin(bench: Bench, names: &[u64], counts: &[u16], beat: u32) -> Started
 
 // Receive: a message is filed. Refused: 9, 8, 22, 1 to 6, 21.
 pub fn receive(bench: Bench, names: &mut [u64], counts: &mut [u16], message: &[u8]) -> Received
-    ensures { λ r. ⌜ ReceiveGives (receiveOf (stateOf bench (now (names .entry)) (now (counts .entry))) (now (message .entry))) (r .answer) (benchOf (r .bench)) (now (names .exit)) (now (counts .exit)) ⌝ }
+    ensures { λ r. ⌜ ReceiveGives (receiveOf (stateOf bench (now (names .entry)) (now (counts .entry))) (now (message .entry))) (r .answer)
+        (benchOf (r .bench)) (now (names .exit)) (now (counts .exit)) ⌝ }
 {
     let mut even = bench.even;
     let mut odd = bench.odd;
@@ -125,7 +128,9 @@ pub fn act(
     count: u16,
     priority: u64,
 ) -> Acted
-    ensures { λ r. ⌜ ActGives (actOf (stateOf bench (now (names .entry)) (now (counts .entry))) (record { name = name; count = count }) priority (now (out .entry))) (r .answer) (benchOf (r .bench)) (now (names .exit)) (now (counts .exit)) (now (out .exit)) ⌝ }
+    ensures { λ r. ⌜ ActGives
+        (actOf (stateOf bench (now (names .entry)) (now (counts .entry))) (record { name = name; count = count }) priority
+        (now (out .entry))) (r .answer) (benchOf (r .bench)) (now (names .exit)) (now (counts .exit)) (now (out .exit)) ⌝ }
 {
     let mut even = bench.even;
     let mut odd = bench.odd;
@@ -160,7 +165,8 @@ pub fn act(
 
 // What the act of the record's beat reads of the agreement before. It is no call: nothing is refused, and nothing changes.
 pub fn support(bench: Bench, names: &[u64], counts: &[u16]) -> Counted
-    ensures { λ r. ⌜ SupportGives (coreWith (benchOf bench) (now (names .entry)) (now (counts .entry))) (viewOf (beatOf (benchOf bench))) (actAt (placeIn (beatOf (benchOf bench)))) r ⌝ }
+    ensures { λ r. ⌜ SupportGives (coreWith (benchOf bench) (now (names .entry)) (now (counts .entry))) (viewOf (beatOf (benchOf bench)))
+        (actAt (placeIn (beatOf (benchOf bench)))) r ⌝ }
 {
     let even = bench.even;
     let odd = bench.odd;

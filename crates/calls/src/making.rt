@@ -38,7 +38,8 @@ fn make_log(
     blocks: u8,
 ) -> ActedHead
     requires { ⌜ Making (now names) (now counts) (now out) v at blocks ⌝ }
-    ensures { λ r. ⌜ LogMade h (now (even .entry)) (now (odd .entry)) (now (names .entry)) (now (counts .entry)) (now (out .entry)) v at blocks r
+    ensures { λ r. ⌜ LogMade h (now (even .entry)) (now (odd .entry)) (now (names .entry)) (now (counts .entry))
+        (now (out .entry)) v at blocks r
         (now (even .exit)) (now (odd .exit)) (now (names .exit)) (now (counts .exit)) (now (out .exit)) ⌝ }
 {
     let own = h.own;
@@ -75,7 +76,8 @@ fn make_proposal(
     priority: u64,
 ) -> ActedHead
     requires { ⌜ (Making (now names) (now counts) (now out) v at blocks) × (blocks < mostBlocks) ⌝ }
-    ensures { λ r. ⌜ ProposalMade h (now (proposed .entry)) (now (priorities .entry)) (now (names .entry)) (now (counts .entry)) (now (out .entry)) v at blocks
+    ensures { λ r. ⌜ ProposalMade h (now (proposed .entry)) (now (priorities .entry)) (now (names .entry)) (now (counts .entry))
+        (now (out .entry)) v at blocks
         (record { name = name; count = count }) priority r
         (now (proposed .exit)) (now (priorities .exit)) (now (names .exit)) (now (counts .exit)) (now (out .exit)) ⌝ }
 {
@@ -127,9 +129,12 @@ pub(crate) fn propose(
     priority: u64,
 ) -> ActedHead
     requires { ⌜ Tested (coreWith (benchFrom h (now even) (now odd) (now proposed) (now priorities)) (now names) (now counts)) (now out) ⌝ }
-    ensures { λ r. ⌜ MakeGives (actedOf (coreWith (benchFrom h (now (even .entry)) (now (odd .entry)) (now (proposed .entry)) (now (priorities .entry))) (now (names .entry)) (now (counts .entry)))
+    ensures { λ r. ⌜ MakeGives
+        (actedOf (coreWith (benchFrom h (now (even .entry)) (now (odd .entry)) (now (proposed .entry)) (now (priorities .entry)))
+        (now (names .entry)) (now (counts .entry)))
         (record { name = name; count = count }) priority (now (out .entry)) v proposing) (r .answer)
-        (benchFrom (r .head) (now (even .exit)) (now (odd .exit)) (now (proposed .exit)) (now (priorities .exit))) (now (names .exit)) (now (counts .exit)) (now (out .exit)) ⌝ }
+        (benchFrom (r .head) (now (even .exit)) (now (odd .exit)) (now (proposed .exit)) (now (priorities .exit))) (now (names .exit))
+        (now (counts .exit)) (now (out .exit)) ⌝ }
 {
     let nothing = ActedHead {
         answer: Made::Nothing,
@@ -174,9 +179,12 @@ pub(crate) fn vote(
     v: u32,
 ) -> ActedHead
     requires { ⌜ Tested (coreWith (benchFrom h (now even) (now odd) (now proposed) (now priorities)) (now names) (now counts)) (now out) ⌝ }
-    ensures { λ r. ⌜ MakeGives (actedOf (coreWith (benchFrom h (now (even .entry)) (now (odd .entry)) (now (proposed .entry)) (now (priorities .entry))) (now (names .entry)) (now (counts .entry)))
+    ensures { λ r. ⌜ MakeGives
+        (actedOf (coreWith (benchFrom h (now (even .entry)) (now (odd .entry)) (now (proposed .entry)) (now (priorities .entry)))
+        (now (names .entry)) (now (counts .entry)))
         noBlock 0 (now (out .entry)) v voting) (r .answer)
-        (benchFrom (r .head) (now (even .exit)) (now (odd .exit)) (now (proposed .exit)) (now (priorities .exit))) (now (names .exit)) (now (counts .exit)) (now (out .exit)) ⌝ }
+        (benchFrom (r .head) (now (even .exit)) (now (odd .exit)) (now (proposed .exit)) (now (priorities .exit))) (now (names .exit))
+        (now (counts .exit)) (now (out .exit)) ⌝ }
 {
     let nothing = ActedHead {
         answer: Made::Nothing,

@@ -37,8 +37,11 @@ pub fn begin(
     counts: &[u16],
     beat: u32,
 ) -> StartedHead
-    ensures { λ r. ⌜ BeginGives (beginOf (heldWith (benchFrom h (now (even .entry)) (now (odd .entry)) (now (proposed .entry)) (now (priorities .entry))) (now (names .entry)) (now (counts .entry))) beat) (r .answer)
-        (benchFrom (r .head) (now (even .exit)) (now (odd .exit)) (now (proposed .exit)) (now (priorities .exit))) (now (names .exit)) (now (counts .exit)) ⌝ }
+    ensures { λ r. ⌜ BeginGives
+        (beginOf (heldWith (benchFrom h (now (even .entry)) (now (odd .entry)) (now (proposed .entry)) (now (priorities .entry)))
+        (now (names .entry)) (now (counts .entry))) beat) (r .answer)
+        (benchFrom (r .head) (now (even .exit)) (now (odd .exit)) (now (proposed .exit)) (now (priorities .exit))) (now (names .exit))
+        (now (counts .exit)) ⌝ }
 {
     if is_beyond(h, even, odd, proposed) {
         return StartedHead {
@@ -81,8 +84,11 @@ pub fn receive(
     counts: &mut [u16],
     message: &[u8],
 ) -> ReceivedHead
-    ensures { λ r. ⌜ ReceiveGives (receiveOf (heldWith (benchFrom h (now (even .entry)) (now (odd .entry)) (now (proposed .entry)) (now (priorities .entry))) (now (names .entry)) (now (counts .entry))) (now (message .entry))) (r .answer)
-        (benchFrom (r .head) (now (even .exit)) (now (odd .exit)) (now (proposed .exit)) (now (priorities .exit))) (now (names .exit)) (now (counts .exit)) ⌝ }
+    ensures { λ r. ⌜ ReceiveGives
+        (receiveOf (heldWith (benchFrom h (now (even .entry)) (now (odd .entry)) (now (proposed .entry)) (now (priorities .entry)))
+        (now (names .entry)) (now (counts .entry))) (now (message .entry))) (r .answer)
+        (benchFrom (r .head) (now (even .exit)) (now (odd .exit)) (now (proposed .exit)) (now (priorities .exit))) (now (names .exit))
+        (now (counts .exit)) ⌝ }
 {
     if is_beyond(h, even, odd, proposed) {
         return ReceivedHead {
@@ -120,8 +126,11 @@ pub fn act(
     count: u16,
     priority: u64,
 ) -> ActedHead
-    ensures { λ r. ⌜ ActGives (actOf (heldWith (benchFrom h (now (even .entry)) (now (odd .entry)) (now (proposed .entry)) (now (priorities .entry))) (now (names .entry)) (now (counts .entry))) (record { name = name; count = count }) priority (now (out .entry))) (r .answer)
-        (benchFrom (r .head) (now (even .exit)) (now (odd .exit)) (now (proposed .exit)) (now (priorities .exit))) (now (names .exit)) (now (counts .exit)) (now (out .exit)) ⌝ }
+    ensures { λ r. ⌜ ActGives
+        (actOf (heldWith (benchFrom h (now (even .entry)) (now (odd .entry)) (now (proposed .entry)) (now (priorities .entry)))
+        (now (names .entry)) (now (counts .entry))) (record { name = name; count = count }) priority (now (out .entry))) (r .answer)
+        (benchFrom (r .head) (now (even .exit)) (now (odd .exit)) (now (proposed .exit)) (now (priorities .exit))) (now (names .exit))
+        (now (counts .exit)) (now (out .exit)) ⌝ }
 {
     if is_beyond(h, even, odd, proposed) {
         return ActedHead {
@@ -165,7 +174,8 @@ pub fn act(
 // What the act of the head's beat reads of the agreement before; proposals do not matter to it. It is no call: nothing is refused,
 // and nothing changes.
 pub fn support(h: Head, even: &[u8; 32], odd: &[u8; 32], names: &[u64], counts: &[u16]) -> Counted
-    ensures { λ r. ⌜ SupportGives (coreWith (benchFrom h (now (even .entry)) (now (odd .entry)) [] []) (now (names .entry)) (now (counts .entry)))
+    ensures { λ r. ⌜ SupportGives
+        (coreWith (benchFrom h (now (even .entry)) (now (odd .entry)) [] []) (now (names .entry)) (now (counts .entry)))
         (viewOf (beatOf (benchFrom h (now (even .entry)) (now (odd .entry)) [] [])))
         (actAt (placeIn (beatOf (benchFrom h (now (even .entry)) (now (odd .entry)) [] [])))) r ⌝ }
 {

@@ -93,7 +93,8 @@ pub(crate) fn shown_of(
     priorities: &mut [u64; 32],
     v: u32,
 ) -> Shown
-    ensures { λ r. ⌜ proposalsFrom r (now (lengths .exit)) (now (priorities .exit)) ≡ proposedIn (proposalsFrom g (now (lengths .entry)) (now (priorities .entry))) v ⌝ }
+    ensures { λ r. ⌜ proposalsFrom r (now (lengths .exit)) (now (priorities .exit)) ≡ proposedIn
+        (proposalsFrom g (now (lengths .entry)) (now (priorities .entry))) v ⌝ }
 {
     if g.view == v {
         return g;

@@ -51,7 +51,8 @@ fn graded(
     v: u32,
     k: u8,
 ) -> Grade
-    ensures { λ r. ⌜ Gives (gradeOf (now (names .entry)) (now (counts .entry)) base (ofView (agreementFrom g (now (lengths .entry))) v) k) (now (names .entry)) (now (counts .entry)) base r ⌝ }
+    ensures { λ r. ⌜ Gives (gradeOf (now (names .entry)) (now (counts .entry)) base (ofView (agreementFrom g (now (lengths .entry))) v) k)
+        (now (names .entry)) (now (counts .entry)) base r ⌝ }
 {
     if g.view == v {
         return grade(g, lengths, names, counts, base, k);
@@ -69,7 +70,9 @@ pub(crate) fn used(
     v: u32,
     place: u8,
 ) -> Grade
-    ensures { λ r. ⌜ Gives (usedOf (coreWith (benchFrom h (now (even .entry)) (now (odd .entry)) [] []) (now (names .entry)) (now (counts .entry))) v (actAt place))
+    ensures { λ r. ⌜ Gives
+        (usedOf (coreWith (benchFrom h (now (even .entry)) (now (odd .entry)) [] []) (now (names .entry)) (now (counts .entry))) v
+        (actAt place))
         (now (names .entry)) (now (counts .entry)) (logsPlace (v - 1)) r ⌝ }
 {
     if 2 < place {
@@ -99,7 +102,9 @@ fn best(
     a: usize,
     k: usize,
 ) -> Choice
-    ensures { λ r. ⌜ Chooses (choiceOf (now (names .entry)) (now (counts .entry)) proposalsPlace (proposedIn (proposalsFrom (h .shown) (now (proposed .entry)) (now (priorities .entry))) v) a k) r ⌝ }
+    ensures { λ r. ⌜ Chooses
+        (choiceOf (now (names .entry)) (now (counts .entry)) proposalsPlace
+        (proposedIn (proposalsFrom (h .shown) (now (proposed .entry)) (now (priorities .entry))) v) a k) r ⌝ }
 {
     let g = h.shown;
     if g.view == v {
@@ -129,7 +134,9 @@ pub(crate) fn ballot(
     v: u32,
 ) -> Found
     requires { ⌜ Usable (coreWith (benchFrom h (now even) (now odd) (now proposed) (now priorities)) (now names) (now counts)) ⌝ }
-    ensures { λ r. ⌜ Finds (ballotOf (coreWith (benchFrom h (now (even .entry)) (now (odd .entry)) (now (proposed .entry)) (now (priorities .entry))) (now (names .entry)) (now (counts .entry))) v)
+    ensures { λ r. ⌜ Finds
+        (ballotOf (coreWith (benchFrom h (now (even .entry)) (now (odd .entry)) (now (proposed .entry)) (now (priorities .entry)))
+        (now (names .entry)) (now (counts .entry))) v)
         (now (names .entry)) (now (counts .entry)) r ⌝ }
 {
     let Grade::Longest(i, blocks) = used(h, even, odd, names, counts, v, 1) else {

@@ -27,7 +27,10 @@ pub extern "C" fn cervakho_roll_page(
     counts: &mut [u16],
     page: &mut [u8],
 ) -> usize
-    ensures { λ r. ⌜ GivesPage (noPage (now (roll .entry)) calls (lentAs (now (names .entry)) (now (counts .entry))) (now (page .entry))) (heldAt (now (roll .entry)) (lentAs (now (names .entry)) (now (counts .entry))) calls) (lentAs (now (names .entry)) (now (counts .entry))) (now (page .entry)) r (now (names .exit)) (now (counts .exit)) (now (page .exit)) ⌝ }
+    ensures { λ r. ⌜ GivesPage (noPage (now (roll .entry)) calls (lentAs (now (names .entry)) (now (counts .entry))) (now (page .entry)))
+        (heldAt (now (roll .entry)) (lentAs (now (names .entry)) (now (counts .entry))) calls)
+        (lentAs (now (names .entry)) (now (counts .entry))) (now (page .entry)) r (now (names .exit)) (now (counts .exit))
+        (now (page .exit)) ⌝ }
 {
     run::roll_page(roll, calls, names, counts, page)
 }

@@ -1,4 +1,5 @@
--- The acts of a list of calls by their beats: each record of an act has its place in the list, and what a later act finds of it. Assumes nothing.
+-- The acts of a list of calls by their beats: each record of an act has its place in the list, and what a later act finds of it. Assumes
+-- nothing.
 use Prim.Native.Nat.{ℕ, _<_}
 use native.Mathlib.Omega.{arith}
 use mathlib.Core.Path.{_≡_, refl, sym, ap, subst, _∙_}
@@ -62,7 +63,8 @@ module _ (S : Seat) (cs : List Call) where
 
   pub act-place : (pre post : List Call) → cs ≡ pre ++ post → (d : ActRecord) → Mem d (after S pre .actions) → ActPlace S cs d
   act-place =
-      along S cs (λ (p : History). (d : ActRecord) → Mem d (p .actions) → ActPlace S cs d) (λ d i. absurd (List·Memᴰ·not-nil i)) actPlace-step
+      along S cs (λ (p : History). (d : ActRecord) → Mem d (p .actions) → ActPlace S cs d)
+      (λ d i. absurd (List·Memᴰ·not-nil i)) actPlace-step
 
 -- ---- the acts of the list by beat
 
@@ -79,7 +81,8 @@ module _ (S : Seat) (cs : List Call) where
       → Mem (recordOf S (after S start) (a .block) (a .priority)) (after S pre .actions)
       → heardAt (after S pre .actions) b ≡ some (after S start .heard)
   place-heardAt pre post e start b a i =
-      let x = mem-heardAt (after S pre .actions) (recordOf S (after S start) (a .block) (a .priority)) b i (beat-is (after S start) b (a .beat)) in
+      let x = mem-heardAt (after S pre .actions) (recordOf S (after S start) (a .block) (a .priority)) b i
+      (beat-is (after S start) b (a .beat)) in
       let y = heardAt-place pre post e b (x .0) (x .1) in
       let s : start ≡ y .0 = once S cs start (y .0) b a (y .1) in
       x .1 ∙ ap {B = Option (List Content)} some (y .2 ∙ ap (λ (z : List Call). after S z .heard) (sym s))
@@ -117,7 +120,8 @@ module _ (S : Seat) (cs : List Call) where
   pub acts-awake : (pre : List Call) (b : ℕ) → ActsAfter S cs pre b → awake S cs b ≡ true
   acts-awake pre b a =
       awake-acted S cs b
-      ∙ mem-actedAt (after S cs .actions) (recordOf S (after S pre) (a .block) (a .priority)) b (recorded pre b a) (beat-is (after S pre) b (a .beat))
+      ∙ mem-actedAt (after S cs .actions) (recordOf S (after S pre) (a .block) (a .priority)) b (recorded pre b a)
+      (beat-is (after S pre) b (a .beat))
 
   -- what the act of a beat had heard, by the whole list
   pub act-heard : (pre : List Call) (b : ℕ) → ActsAfter S cs pre b → heardAt (after S cs .actions) b ≡ some (after S pre .heard)

@@ -1,11 +1,12 @@
--- Beats and gatherings along one bench's list of calls: what is recorded or heard stays, a gathering after an act is of a later beat, and each beat
--- has one act. Assumes nothing.
+-- Beats and gatherings along one bench's list of calls: what is recorded or heard stays, a gathering after an act is of a later beat, and
+-- each beat has one act. Assumes nothing.
 use Prim.Native.Nat.{ℕ, suc, _≤_, _<_}
 use native.Mathlib.Omega.{arith}
 use native.Mathlib.Nat.{le-refl}
 use mathlib.Core.Path.{_≡_, refl, sym, ap, subst, _∙_}
 use mathlib.Core.Logic.{inl, inr}
-use mathlib.Core.List.{List, [], _∷_, _++_, append-nil, List·Memᴰ as Mem, List·Memᴰ·head, List·Memᴰ·tail, List·Memᴰ·cases-cons, List·Memᴰ·not-nil, head-eq-of-cons-eq, tail-eq-of-cons-eq}
+use mathlib.Core.List.{List, [], _∷_, _++_, append-nil, List·Memᴰ as Mem, List·Memᴰ·head, List·Memᴰ·tail, List·Memᴰ·cases-cons}
+use mathlib.Core.List.{List·Memᴰ·not-nil, head-eq-of-cons-eq, tail-eq-of-cons-eq}
 use mathlib.Core.Option.{Option, some, none, Option·some-injective}
 use mathlib.Core.Bool.{true, false, false≢true}
 use borrow.Author.Tests.{leb-false}
@@ -14,7 +15,8 @@ use Rattle.message.specs.Message.{Content}
 use Rattle.bench.specs.Terms.{Seat}
 use Rattle.bench.specs.Calls.{Call, begin, receive, act}
 use Rattle.bench.specs.History.{History, ActRecord, beatNow, refusal, notAbove, closed, accepted, madeBy, decidedBy, after}
-use Rattle.bench.proofs.CallLaws.{begin-ok, act-ok, receive-ok, file-last, made-last, made-gathering, file-heard, made-heard, accepted-begin, accepted-receive, accepted-act, recordOf, accepted-actions-act, accepted-actions-receive}
+use Rattle.bench.proofs.CallLaws.{begin-ok, act-ok, receive-ok, file-last, made-last, made-gathering, file-heard, made-heard}
+use Rattle.bench.proofs.CallLaws.{accepted-begin, accepted-receive, accepted-act, recordOf, accepted-actions-act, accepted-actions-receive}
 use Rattle.bench.proofs.HistoryLaws.{afterFrom-keeps, after-append, after-ok}
 use Rattle.demand.specs.Places.{At, ActsAfter}
 use Rattle.demand.proofs.Starts.{along}
@@ -77,7 +79,8 @@ Below p b = UpTo p b × (p .gathering ≡ true → UpTo p (suc b))
 
 module _ (S : Seat) where
   -- an act is below the gatherings after it
-  pub below-act : (p : History) (b : ℕ) (x : Block) (r : ℕ) (o : List ℕ) → refusal S p (act x r o) ≡ none → UpTo p b → Below (accepted S p (act x r o)) b
+  pub below-act : (p : History) (b : ℕ) (x : Block) (r : ℕ) (o : List ℕ) → refusal S p (act x r o) ≡ none → UpTo p b
+      → Below (accepted S p (act x r o)) b
   below-act p b x r o ok u = (upTo-step S p b (act x r o) ok u, λ g. absurd (false≢true (sym (act-gathering S p x r o) ∙ g)))
 
   pub below-step : (p : History) (b : ℕ) (c : Call) → refusal S p c ≡ none → Below p b → Below (accepted S p c) b
@@ -99,7 +102,8 @@ module _ (S : Seat) where
 
   pub has-beat : (pre : List Call) → after S pre .gathering ≡ true → (b : ℕ) × (after S pre .last ≡ some b)
   has-beat pre =
-      along S pre HasBeat (λ g. absurd (false≢true g)) (λ start c at ok h. hasBeat-step (after S start) c ok h) pre [] (sym (append-nil pre))
+      along S pre HasBeat (λ g. absurd (false≢true g)) (λ start c at ok h. hasBeat-step (after S start) c ok h) pre []
+      (sym (append-nil pre))
 
   -- ---- what is recorded, or heard, stays
 
@@ -165,7 +169,8 @@ module _ (S : Seat) where
       → b < b′
   later cs pre b a mid b′ g e =
       let whole = (pre ++ (act (a .block) (a .priority) (a .out) ∷ [])) ++ mid in
-      let w = actions-below whole (recordOf S (after S pre) (a .block) (a .priority)) (act-recorded pre mid (a .block) (a .priority) (a .out) (a .ok)) in
+      let w = actions-below whole (recordOf S (after S pre) (a .block) (a .priority))
+      (act-recorded pre mid (a .block) (a .priority) (a .out) (a .ok)) in
       let l = upTo-le (after S whole) _ b′ (w .1 g) e in
       let k = beat-is (after S pre) b (a .beat) in
       omega arith

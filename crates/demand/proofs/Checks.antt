@@ -3,7 +3,8 @@ use Prim.Native.Nat.{ℕ, _≤_}
 use native.Mathlib.Omega.{arith}
 use mathlib.Core.Path.{_≡_, sym, ap, subst, _∙_}
 use mathlib.Core.Logic.{_⊎_, inl, inr}
-use mathlib.Core.List.{List, [], _∷_, _++_, append-nil, append-assoc, List·Memᴰ as Mem, List·Memᴰ·head, Memᴰ·cast, Memᴰ·append-left, Memᴰ·append-right}
+use mathlib.Core.List.{List, [], _∷_, _++_, append-nil, append-assoc, List·Memᴰ as Mem, List·Memᴰ·head, Memᴰ·cast, Memᴰ·append-left}
+use mathlib.Core.List.{Memᴰ·append-right}
 use mathlib.Core.Option.{Option, some, none}
 use mathlib.Core.Bool.{Bool, true, false, not, _&&_, false≢true, and-eq-true-iff}
 use lib.Dec.{eqb, leb, ltb}
@@ -17,7 +18,8 @@ use Rattle.bench.specs.Terms.{Seat, seatOf, weightOf}
 use Rattle.bench.specs.Calendar.{viewBeat, closeBeat}
 use Rattle.bench.specs.Calls.{Call, begin, receive, act}
 use Rattle.bench.specs.History.{History, ActRecord, fresh, beatNow, refusal, wordFor, madeBy, step, after, afterFrom}
-use Rattle.bench.proofs.CallLaws.{filed-heard, accepted-begin, receive-ok, taken-reply, took-injective, accepted-receive, recordOf, receive-open}
+use Rattle.bench.proofs.CallLaws.{filed-heard, accepted-begin, receive-ok, taken-reply, took-injective, accepted-receive, recordOf}
+use Rattle.bench.proofs.CallLaws.{receive-open}
 use Rattle.bench.proofs.HistoryActs.{made-vote}
 use Rattle.bench.proofs.HistoryLaws.{afterFrom-nil, afterFrom-cons, after-from, after-append, after-ok}
 use Rattle.demand.specs.Places.{Begins, MakesAfter, Sends, sendsMade, sendsOn, With}
@@ -86,10 +88,12 @@ new-is : (w : Word) → (w ≡ first) ⊎ (w ≡ second) → isNew w ≡ true
 new-is w (inl e) = rw e
 new-is w (inr e) = rw e
 
-at-beat : (p : History) (b : ℕ) (m : Content) → p .last ≡ some b → _≡_ {A = SentLog} (record { beat = b; content = m }) (record { beat = beatNow p; content = m })
+at-beat : (p : History) (b : ℕ) (m : Content) → p .last ≡ some b
+    → _≡_ {A = SentLog} (record { beat = b; content = m }) (record { beat = beatNow p; content = m })
 at-beat p b m e = ap {B = SentLog} (λ (k : ℕ). record { beat = k; content = m }) (sym (beat-is p b e))
 
-sends-listed : (S : Seat) (cs : List Call) (b : ℕ) (m : Content) → Sends S cs b m → Mem (record { beat = b; content = m }) (sentList S (fresh S) cs)
+sends-listed : (S : Seat) (cs : List Call) (b : ℕ) (m : Content) → Sends S cs b m
+    → Mem (record { beat = b; content = m }) (sentList S (fresh S) cs)
 unfolding sentBy sentRead sentMade
 sends-listed S cs b m (sendsMade pre t) =
     let a = t .acts in
@@ -134,7 +138,8 @@ deliveredb W =
     allBelow (W .terms .n) (λ (p : ℕ).
     allBelow (W .terms .n) (λ (q : ℕ).
     implies (W .keeper p && (W .keeper q && not (eqb p q)))
-    (all (λ (l : SentLog). all (arrivedBy q l) (after (seat W q) (W .calls q) .actions)) (sentList (seat W p) (fresh (seat W p)) (W .calls p)))))
+    (all (λ (l : SentLog). all (arrivedBy q l) (after (seat W q) (W .calls q) .actions))
+    (sentList (seat W p) (fresh (seat W p)) (W .calls p)))))
 
 not-eqb : (a b : ℕ) → (a ≡ b → ⊥) → not (eqb a b) ≡ true
 not-eqb a b h = rw (ne-eqb a b h)
@@ -162,7 +167,8 @@ delivered W e p q kp kq d b m s pre b′ a l gap u o =
     let action = recordOf (seatOf T q) now (a .block) (a .priority) in
     let whole : W .calls q ≡ (pre ++ (c ∷ [])) ++ a .place .0 = a .place .1 ∙ sym (append-assoc pre (c ∷ []) (a .place .0)) in
     let i : Mem action (after (seatOf T q) (W .calls q) .actions) =
-    subst (λ (cs : List Call). Mem action (after (seatOf T q) cs .actions)) (sym whole) (act-recorded (seatOf T q) pre (a .place .0) (a .block) (a .priority) (a .out) (a .ok)) in
+    subst (λ (cs : List Call). Mem action (after (seatOf T q) cs .actions)) (sym whole)
+    (act-recorded (seatOf T q) pre (a .place .0) (a .block) (a .priority) (a .out) (a .ok)) in
     let both : (W .keeper p && (W .keeper q && not (eqb p q))) ≡ true = rw (kp .1, kq .1, not-eqb p q d) in
     let x = implies-use _ _ (below-use (T .n) _ (below-use (T .n) _ e p (kp .0)) q (kq .0)) both in
     let y = all-use _ _ (all-use _ _ x (record { beat = b; content = m }) (sends-listed (seatOf T p) (W .calls p) b m s)) action i in
@@ -198,7 +204,8 @@ unfoldable pub numberedb : Volume → Bool
 numberedb W =
     allBelow (W .terms .n) (λ (q : ℕ).
     implies (W .keeper q)
-    (all (λ (m : Content). implies (W .keeper (m .sender)) (actMade (seat W (m .sender)) (W .calls (m .sender)) m)) (after (seat W q) (W .calls q) .heard)))
+    (all (λ (m : Content). implies (W .keeper (m .sender)) (actMade (seat W (m .sender)) (W .calls (m .sender)) m))
+    (after (seat W q) (W .calls q) .heard)))
 
 pub numbered : (W : Volume) → numberedb W ≡ true → Numbers W
 unfolding numberedb
@@ -207,10 +214,13 @@ numbered W e p q kp kq pre b m t s =
     let c = receive (t .bytes) in
     let whole : W .calls q ≡ (pre ++ (c ∷ [])) ++ t .place .0 = t .place .1 ∙ sym (append-assoc pre (c ∷ []) (t .place .0)) in
     let new : Mem m (after (seatOf T q) (pre ++ (c ∷ [])) .heard) =
-    subst (λ (g : History). Mem m (g .heard)) (sym (after-ok (seatOf T q) pre c (t .ok) ∙ accepted-receive (seatOf T q) (after (seatOf T q) pre) (t .bytes) (logMessage m) (t .read)))
+    subst (λ (g : History). Mem m (g .heard))
+    (sym (after-ok (seatOf T q) pre c (t .ok)
+    ∙ accepted-receive (seatOf T q) (after (seatOf T q) pre) (t .bytes) (logMessage m) (t .read)))
     (filed-heard (after (seatOf T q) pre) m) in
     let i : Mem m (after (seatOf T q) (W .calls q) .heard) =
-    subst (λ (cs : List Call). Mem m (after (seatOf T q) cs .heard)) (sym whole) (heard-grow (seatOf T q) (pre ++ (c ∷ [])) (t .place .0) m new) in
+    subst (λ (cs : List Call). Mem m (after (seatOf T q) cs .heard)) (sym whole)
+    (heard-grow (seatOf T q) (pre ++ (c ∷ [])) (t .place .0) m new) in
     let x = implies-use _ _ (below-use (T .n) _ e q (kq .0)) (kq .1) in
     let y = implies-use _ _ (all-use _ _ x m i) (ap (λ (z : ℕ). W .keeper z) s ∙ kp .1) in
     act-made (seatOf T p) (W .calls p) m (subst (λ (k : ℕ). actMade (seatOf T k) (W .calls k) m ≡ true) s y)
@@ -221,7 +231,8 @@ numbered W e p q kp kq pre b m t s =
 unfoldable pub majorityb : Volume → ℕ → Bool
 majorityb W top =
     allBelow (W .terms .n) (λ (i : ℕ). implies (W .keeper i) (ltb (beatNow (after (seat W i) (W .calls i))) (viewBeat top)))
-    && allBelow top (λ (v : ℕ). ltb (weigh (W .terms .n) (weightOf (W .terms)) (breaker W)) (weigh (W .terms .n) (weightOf (W .terms)) (counted W v)))
+    && allBelow top (λ (v : ℕ). ltb (weigh (W .terms .n) (weightOf (W .terms)) (breaker W))
+    (weigh (W .terms .n) (weightOf (W .terms)) (counted W v)))
 
 -- a beat begun is at most the last begun
 begun-upTo : (S : Seat) (cs : List Call) (b : ℕ) → Begins S cs b → b ≤ beatNow (after S cs)
@@ -230,7 +241,8 @@ begun-upTo S cs b g =
     let e : cs ≡ (g .pre ++ (begin b ∷ [])) ++ g .place .0 = g .place .1 ∙ sym (append-assoc (g .pre) (begin b ∷ []) (g .place .0)) in
     let f = after-ok S (g .pre) (begin b) (g .ok) ∙ accepted-begin S (after S (g .pre)) b in
     let u = upTo-from S cs q (g .place .0) b (upTo-now q b (ap (λ (p : History). p .last) f)) in
-    let w : UpTo (after S cs) b = subst (λ (p : History). UpTo p b) (sym (ap (after S) e ∙ after-append S (g .pre ++ (begin b ∷ [])) (g .place .0))) u in
+    let w : UpTo (after S cs) b =
+    subst (λ (p : History). UpTo p b) (sym (ap (after S) e ∙ after-append S (g .pre ++ (begin b ∷ [])) (g .place .0))) u in
     let l = w .le in
     let k = beat-is (after S cs) (w .top) (w .last) in
     omega arith
@@ -239,7 +251,9 @@ pub majority : (W : Volume) (top : ℕ) → majorityb W top ≡ true → Majorit
 unfolding majorityb
 majority W top e v i k b g l m =
     let x = and-eq-true-iff _ _ .0 e in
-    let t = ltb-true (beatNow (after (seat W i) (W .calls i))) (viewBeat top) (implies-use _ _ (below-use (W .terms .n) _ (x .0) i (k .0)) (k .1)) in
+    let t = ltb-true (beatNow (after (seat W i) (W .calls i))) (viewBeat top)
+    (implies-use _ _ (below-use (W .terms .n) _ (x .0) i (k .0)) (k .1)) in
     let u = begun-upTo (seat W i) (W .calls i) b g in
-    let c = ltb-true (weigh (W .terms .n) (weightOf (W .terms)) (breaker W)) (weigh (W .terms .n) (weightOf (W .terms)) (counted W v)) (below-use top _ (x .1) v (omega arith)) in
+    let c = ltb-true (weigh (W .terms .n) (weightOf (W .terms)) (breaker W)) (weigh (W .terms .n) (weightOf (W .terms)) (counted W v))
+    (below-use top _ (x .1) v (omega arith)) in
     omega arith

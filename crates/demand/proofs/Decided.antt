@@ -2,7 +2,8 @@
 use Prim.Native.Nat.{ℕ}
 use mathlib.Core.Path.{_≡_, refl, sym, ap, subst, _∙_}
 use mathlib.Core.Logic.{_⊎_, inl, inr}
-use mathlib.Core.List.{List, [], _∷_, _++_, append-nil, append-assoc, List·Memᴰ as Mem, List·Memᴰ·head, List·Memᴰ·tail, List·Memᴰ·cases-cons, List·Memᴰ·not-nil}
+use mathlib.Core.List.{List, [], _∷_, _++_, append-nil, append-assoc, List·Memᴰ as Mem, List·Memᴰ·head, List·Memᴰ·tail}
+use mathlib.Core.List.{List·Memᴰ·cases-cons, List·Memᴰ·not-nil}
 use mathlib.Core.Option.{Option, some, none}
 use mathlib.Core.Bool.{true, false, false≢true}
 use Rattle.message.specs.Logs.{Log, Prefix, empty, Compatible, isPrefix}
@@ -50,7 +51,8 @@ mem-decided (x ∷ xs) L i = go (x .decided) refl i (mem-decided xs L)
     lift : ((d : ActRecord) × Mem d xs × (d .decided ≡ some L)) → (d : ActRecord) × Mem d (x ∷ xs) × (d .decided ≡ some L)
     lift y = (y .0, List·Memᴰ·tail (y .1), y .2)
 
-    go : (o : Option Log) → x .decided ≡ o → Mem L (keepSome o (decidedIn xs)) → (Mem L (decidedIn xs) → (d : ActRecord) × Mem d xs × (d .decided ≡ some L))
+    go : (o : Option Log) → x .decided ≡ o → Mem L (keepSome o (decidedIn xs))
+        → (Mem L (decidedIn xs) → (d : ActRecord) × Mem d xs × (d .decided ≡ some L))
         → (d : ActRecord) × Mem d (x ∷ xs) × (d .decided ≡ some L)
     go none e j below = lift (below j)
     go (some M) e j below = elim (List·Memᴰ·cases-cons j) [
@@ -95,7 +97,8 @@ decides-start S pre post L d =
             out = a .out;
             place = (
               a .place .0 ++ post,
-              ap (λ (l : List Call). l ++ post) (a .place .1) ∙ append-assoc (d .pre) (act (a .block) (a .priority) (a .out) ∷ a .place .0) post,
+              ap (λ (l : List Call). l ++ post) (a .place .1)
+                  ∙ append-assoc (d .pre) (act (a .block) (a .priority) (a .out) ∷ a .place .0) post,
             );
             ok = a .ok;
             beat = a .beat;
@@ -145,7 +148,8 @@ settle-good Ls st L agree g =
       among = inl (List·Memᴰ·tail (stood e));
     }
 
-decided-more : (Ls : List Log) (st : Stand) (o : Option Log) → Agreeing (keepSome o Ls) → (Agreeing Ls → Good Ls st) → Good (keepSome o Ls) (settle st o)
+decided-more : (Ls : List Log) (st : Stand) (o : Option Log) → Agreeing (keepSome o Ls) → (Agreeing Ls → Good Ls st)
+    → Good (keepSome o Ls) (settle st o)
 decided-more Ls st none agree below = subst (Good Ls) (sym (settle-none st)) (below agree)
 decided-more Ls st (some L) agree below = settle-good Ls st L agree (below (λ M K i j. agree M K (List·Memᴰ·tail i) (List·Memᴰ·tail j)))
 
@@ -159,7 +163,8 @@ stand-good (d ∷ ds) agree =
     (decided-more (decidedIn ds) (standIn nothingStands ds) (d .decided) agree (stand-good ds))
 
 -- Where no two logs decided in the list conflict, what stands is the longest of them, and there is no mark.
-pub stands-longest : (T : Terms) (own : ℕ) (cs : List Call) → ((L M : Log) → Decides (seatOf T own) cs L → Decides (seatOf T own) cs M → Compatible L M)
+pub stands-longest : (T : Terms) (own : ℕ) (cs : List Call)
+    → ((L M : Log) → Decides (seatOf T own) cs L → Decides (seatOf T own) cs M → Compatible L M)
     → LongestDecided (seatOf T own) cs (stand (seatOf T own) cs .log) × (stand (seatOf T own) cs .parted ≡ false)
 stands-longest T own cs agree =
     let ds = after (seatOf T own) cs .actions in

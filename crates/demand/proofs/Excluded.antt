@@ -31,7 +31,8 @@ use Rattle.demand.proofs.Witness.{four, fiveSix, bench0, keep0, unmarke
 -- ---- by the history
 
 -- 7 and 8 do not hold
-opens-unrefused : (T : Terms) (own : ℕ) (l : Lent) → 1 ≤ T .n → T .n ≤ mostSenders → own < T .n → leastLent ≤ length (l .names) → leastLent ≤ length (l .counts)
+opens-unrefused : (T : Terms) (own : ℕ) (l : Lent) → 1 ≤ T .n → T .n ≤ mostSenders → own < T .n → leastLent ≤ length (l .names)
+    → leastLent ≤ length (l .counts)
     → openRefusal (seatOf T own) l ≡ none
 opens-unrefused T own l a b c d e =
     let range : outOfRange (T .n) own ≡ false = rw (ne-eqb (T .n) 0 (λ z. omega arith), le-ltb mostSenders (T .n) b, lt-leb (T .n) own c) in
@@ -40,7 +41,8 @@ opens-unrefused T own l a b c d e =
 
 begin-fresh : (T : Terms) (own b : ℕ) → b ≤ lastBeat → answer (seatOf T own) (fresh (seatOf T own)) (begin b) .reply ≡ done
 begin-fresh T own b l =
-    begun-reply (seatOf T own) (fresh (seatOf T own)) b (accepts-call (seatOf T own) (fresh (seatOf T own)) (begin b) (le-ltb lastBeat b l, (refl, tt)))
+    begun-reply (seatOf T own) (fresh (seatOf T own)) b
+    (accepts-call (seatOf T own) (fresh (seatOf T own)) (begin b) (le-ltb lastBeat b l, (refl, tt)))
 
 abbrev firstReply : List Answer → Reply
 firstReply [] = done
@@ -74,7 +76,8 @@ zeros-fit k l =
 -- ---- of every machine that meets demand 3
 
 module _ (M : Machine) (D : Demand3 M) where
-  -- Not one that opens nothing: it opens for every n of 1 to 32, own number below n, and lists of 6,208 places and more, whatever they hold.
+  -- Not one that opens nothing: it opens for every n of 1 to 32, own number below n, and lists of 6,208 places and more, whatever they
+  -- hold.
   pub opens-benches : (T : Terms) (own : ℕ) (l : Lent) → TypedOpen (T .n) own l → 1 ≤ T .n → T .n ≤ mostSenders → own < T .n
       → leastLent ≤ length (l .names) → leastLent ≤ length (l .counts)
       → OpenedAs M T own (record { bench = M .open′ T own l .bench; lent = l })
@@ -93,8 +96,8 @@ module _ (M : Machine) (D : Demand3 M) where
       ∙ answersTo-from S (begin b ∷ []) ∙ answersFrom-cons S (fresh S) (begin b) [])
       ∙ begin-fresh T own b l
 
-  -- Not one that no-eight-or-nine decides, votes the empty log only, forgets after view 0 or invents a count: whoever goes through bench 0's calls of the
-  -- witness, by value or on a lent record, ends with [5,6], of 3 and 0 entries, standing at its place in the lent lists, and no mark.
+  -- Not one that never decides, votes the empty log only, forgets after view 0 or invents a count: whoever goes through bench 0's calls of
+  -- the witness, by value or on a lent record, ends with [5,6], of 3 and 0 entries, standing at its place in the lent lists, and no mark.
   pub decides-both : (x : State) (es : List Event) → OpenedAs M four 0 x → callsIn es ≡ bench0
       → standing (runs M x es) ≡ unmarked fiveSix
   decides-both x es o e = D .alone .stood four 0 x es o (subst AllTyped (sym e) (typed 0 keep0)) ∙ ap (stand (seatOf four 0)) e ∙ stands .0
@@ -106,12 +109,15 @@ module _ (M : Machine) (D : Demand3 M) where
       let y = runs M x es in
       let f : nameFirst (logAt (y .lent .names) (y .lent .counts) decidedPlace (y .bench .decided)) ≡ 5 =
       ap (λ (st : Stand). nameFirst (st .log)) (decides-both x es o e) in
-      free (ap (λ (l : Lent). getD (l .names) decidedPlace 0) (sym same) ∙ first-name (y .lent .names) (y .lent .counts) decidedPlace _ 5 (omega arith) f)
+      free (ap (λ (l : Lent). getD (l .names) decidedPlace 0) (sym same)
+      ∙ first-name (y .lent .names) (y .lent .counts) decidedPlace _ 5 (omega arith) f)
 
   -- and such lists it opens on: of zeros
-  pub zeros-written : runs M (record { bench = M .open′ four 0 (zeros leastLent) .bench; lent = zeros leastLent }) (byValues bench0) .lent ≡ zeros leastLent → ⊥
+  pub zeros-written : runs M (record { bench = M .open′ four 0 (zeros leastLent) .bench; lent = zeros leastLent })
+      (byValues bench0) .lent ≡ zeros leastLent → ⊥
   zeros-written =
       let e = length-replicate {A = ℕ} leastLent 0 in
       let z = zeros-below 5 leastLent (omega arith) decidedPlace in
-      let o = opens-benches four 0 (zeros leastLent) (zeros-fit leastLent (omega arith)) (omega arith) (omega arith) (omega arith) (omega arith) (omega arith) in
+      let o = opens-benches four 0 (zeros leastLent) (zeros-fit leastLent (omega arith)) (omega arith) (omega arith) (omega arith)
+      (omega arith) (omega arith) in
       lists-written _ (byValues bench0) o (calls-byValues bench0) (λ q. omega arith)

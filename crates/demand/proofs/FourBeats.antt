@@ -1,5 +1,5 @@
--- The calendar of four-beat views as a Timetable: one agreement a view, votes at 4v+1 on grade 1 of the view before with its snapshot of 4v-1, decisions of
--- grade 2 at 4v+6 with the snapshot of 4v+2. So demand 3's premises give safety. Assumes nothing.
+-- The calendar of four-beat views as a Timetable: one agreement a view, votes at 4v+1 on grade 1 of the view before with its snapshot of
+-- 4v-1, decisions of grade 2 at 4v+6 with the snapshot of 4v+2. So demand 3's premises give safety. Assumes nothing.
 use Prim.Native.Nat.{ℕ, zero, suc, _≤_, _<_}
 use native.Mathlib.Omega.{arith}
 use mathlib.Core.Path.{_≡_, refl, sym, ap, subst, _∙_}
@@ -43,21 +43,25 @@ module _ (S : Seat) (cs : List Call) where
       let a = the-vote pre b (logBy (S .own) (suc v) L) t in (
         a .locked,
         graded-at S cs pre _ (t .acts .place .1) v (snapshotTwoBeat v) (a .locked) (sym (used-lock S (after S pre) v) ∙ a .isLock),
-        subst (Prefix (a .locked)) (sym (a .voted)) (vote-extends (S .terms .n) (heardProposals (after S pre .proposals) (suc v)) (a .locked)),
+        subst (Prefix (a .locked)) (sym (a .voted))
+            (vote-extends (S .terms .n) (heardProposals (after S pre .proposals) (suc v)) (a .locked)),
       )
 
   -- an act at a view's input beat votes, where there is a lock
-  acts-vote : (pre : List Call) (v : ℕ) (K : Log) (a : ActsAfter S cs pre (inputBeat v)) → v ≤ lastView → usedAt S (after S pre) v voting ≡ some K
+  acts-vote : (pre : List Call) (v : ℕ) (K : Log) (a : ActsAfter S cs pre (inputBeat v)) → v ≤ lastView
+      → usedAt S (after S pre) v voting ≡ some K
       → (L : Log) × MakesAfter S cs pre (inputBeat v) (logBy (S .own) v L)
   acts-vote pre v K a l q =
       let p = after S pre in
       let m = makes-log S p (a .block) (a .priority) v K (beat-is p (inputBeat v) (a .beat)) l q in
       (voteAmong (S .terms .n) (heardProposals (p .proposals) v) K, record { acts = a; made = m })
 
-  next-made : (start pre : List Call) (v : ℕ) → suc v ≤ lastView → ActsAfter S cs start (snapshotTwoBeat v) → ActsAfter S cs pre (inputBeat (suc v))
+  next-made : (start pre : List Call) (v : ℕ) → suc v ≤ lastView → ActsAfter S cs start (snapshotTwoBeat v)
+      → ActsAfter S cs pre (inputBeat (suc v))
       → (K : Log) → GradeAfter S pre v start K → (L : Log) × MakesAfter S cs pre (inputBeat (suc v)) (logBy (S .own) (suc v) L)
   next-made start pre v l a b K g =
-      let m = grade-some (S .terms .n) (weightOf (S .terms)) (heardLogs (after S pre .heard) v) (votersOf (heardLogs (after S start .heard) v)) K g in
+      let m = grade-some (S .terms .n) (weightOf (S .terms)) (heardLogs (after S pre .heard) v)
+      (votersOf (heardLogs (after S start .heard) v)) K g in
       let s = place-heardAt S cs pre _ (b .place .1) start (snapshotTwoBeat v) a
       (recorded-before S cs start (snapshotTwoBeat v) a pre (inputBeat (suc v)) b (omega arith)) in
       acts-vote pre (suc v) (m .0) b l (used-lock S (after S pre) v ∙ rw s (m .1))
@@ -162,11 +166,14 @@ module _ (W : Volume) where
       let g = act-begun (seat W r) (W .calls r) (p .pre) b (p .acts) .0 in
       let j = J v r (p .keeps) b g (omega arith) (omega arith) in
       let x = weigh-cong (W .terms .n) (weightOf (W .terms)) (breaker W) (λ x. not (keepsb W x)) (λ i k. ap not (keepsb-below i k)) in
-      let y = weigh-cong (W .terms .n) (weightOf (W .terms)) (counted W v) (memberOf W (fourBeats (W .terms)) nobodyTurns v) (counted-same v) in
+      let y = weigh-cong (W .terms .n) (weightOf (W .terms)) (counted W v) (memberOf W (fourBeats (W .terms)) nobodyTurns v)
+      (counted-same v) in
       omega arith
 
 -- No two decided logs conflict, at two rule-keepers or at one, in any views.
 pub no-conflict : (W : Volume) → Delivery W → Numbers W → Majority W
-    → (i j : ℕ) → Keeps W i → Keeps W j → (L M : Log) → Decides (seat W i) (W .calls i) L → Decides (seat W j) (W .calls j) M → Compatible L M
+    → (i j : ℕ) → Keeps W i → Keeps W j → (L M : Log) → Decides (seat W i) (W .calls i) L → Decides (seat W j) (W .calls j) M
+    → Compatible L M
 unfolding fourBeats
-no-conflict W D N J = no-conflict-by W (fourBeats (W .terms)) (nobodyTurns W) D (λ p q kp kq pre b m t e to. N p q kp kq pre b m t e) (majority-in W J)
+no-conflict W D N J =
+    no-conflict-by W (fourBeats (W .terms)) (nobodyTurns W) D (λ p q kp kq pre b m t e to. N p q kp kq pre b m t e) (majority-in W J)

@@ -1,4 +1,5 @@
--- Where a LOG that a bench has heard came from: taken in a gathering, or made as a vote; and that it is heard from then on. Assumes nothing.
+-- Where a LOG that a bench has heard came from: taken in a gathering, or made as a vote; and that it is heard from then on. Assumes
+-- nothing.
 use Prim.Native.Nat.{ℕ, _≤_, _<_}
 use native.Mathlib.Omega.{arith}
 use mathlib.Core.Path.{_≡_, sym, ap, subst, _∙_}
@@ -10,11 +11,13 @@ use Rattle.message.specs.Message.{Content, Meaning, logMessage, means}
 use Rattle.bench.specs.Terms.{Seat}
 use Rattle.bench.specs.Calls.{Call, begin, receive, act}
 use Rattle.bench.specs.History.{History, refusal, fileMade, closed, accepted, madeBy, decidedBy, after}
-use Rattle.bench.proofs.CallLaws.{act-ok, receive-ok, Receives, filed-heard, filed-cases, made-cases, accepted-begin, accepted-receive, accepted-act}
+use Rattle.bench.proofs.CallLaws.{act-ok, receive-ok, Receives, filed-heard, filed-cases, made-cases, accepted-begin, accepted-receive}
+use Rattle.bench.proofs.CallLaws.{accepted-act}
 use Rattle.bench.proofs.HistoryLaws.{after-ok}
 use Rattle.demand.specs.Places.{At, ActsAfter, MakesAfter, TakesAfter}
 use Rattle.demand.proofs.Starts.{along}
-use Rattle.demand.proofs.Beats.{UpTo, upTo-now, upTo-step, Below, below-act, below-step, has-beat, heard-grow, later, Order, same, before, behind, ordered}
+use Rattle.demand.proofs.Beats.{UpTo, upTo-now, upTo-step, Below, below-act, below-step, has-beat, heard-grow, later, Order, same}
+use Rattle.demand.proofs.Beats.{before, behind, ordered}
 
 -- ---- where a LOG that is heard came from
 
@@ -83,7 +86,8 @@ module _ (S : Seat) (cs : List Call) where
   -- ---- and back
 
   -- a LOG taken in a gathering of a beat up to b′ is among those heard at the act of b′
-  pub taken-heard : (pre : List Call) (b : ℕ) (h : Content) → TakesAfter S cs pre b h → (pre′ : List Call) (b′ : ℕ) → ActsAfter S cs pre′ b′ → b ≤ b′
+  pub taken-heard : (pre : List Call) (b : ℕ) (h : Content) → TakesAfter S cs pre b h → (pre′ : List Call) (b′ : ℕ) → ActsAfter S cs pre′ b′
+      → b ≤ b′
       → Mem h (after S pre′ .heard)
   taken-heard pre b h t pre′ b′ a l = go (ordered cs pre _ pre′ _ (t .place) (a .place))
     where
@@ -102,7 +106,8 @@ module _ (S : Seat) (cs : List Call) where
           absurd (omega arith)
 
   -- one made in an act of an earlier beat likewise
-  pub made-heard-later : (pre : List Call) (b : ℕ) (h : Content) → MakesAfter S cs pre b h → (pre′ : List Call) (b′ : ℕ) → ActsAfter S cs pre′ b′ → b < b′
+  pub made-heard-later : (pre : List Call) (b : ℕ) (h : Content) → MakesAfter S cs pre b h → (pre′ : List Call) (b′ : ℕ)
+      → ActsAfter S cs pre′ b′ → b < b′
       → Mem h (after S pre′ .heard)
   made-heard-later pre b h t pre′ b′ a l = go (ordered cs pre _ pre′ _ (t .acts .place) (a .place))
     where
@@ -118,7 +123,8 @@ module _ (S : Seat) (cs : List Call) where
           ∙ ap (fileMade (closed p (madeBy S p (t .acts .block) (t .acts .priority)) (decidedBy S p))) (t .made)))
           (filed-heard (closed p (madeBy S p (t .acts .block) (t .acts .priority)) (decidedBy S p)) h)
 
-      go : Order pre (act (t .acts .block) (t .acts .priority) (t .acts .out)) pre′ (act (a .block) (a .priority) (a .out)) → Mem h (after S pre′ .heard)
+      go : Order pre (act (t .acts .block) (t .acts .priority) (t .acts .out)) pre′ (act (a .block) (a .priority) (a .out))
+          → Mem h (after S pre′ .heard)
       go (same e f) =
           let k : b ≡ b′ = Option·some-injective _ _ (sym (t .acts .beat) ∙ ap (λ (x : List Call). after S x .last) e ∙ a .beat) in
           absurd (omega arith)

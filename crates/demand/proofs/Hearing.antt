@@ -1,4 +1,5 @@
--- Many benches, as far as safety depends on them: what they hear of each other's LOGs, how they vote, and what they decide. Assumes nothing.
+-- Many benches, as far as safety depends on them: what they hear of each other's LOGs, how they vote, and what they decide. Assumes
+-- nothing.
 use Prim.Native.Nat.{ℕ, suc, _≤_, _<_}
 use mathlib.Core.Path.{_≡_}
 use mathlib.Core.Logic.{_⊎_, _≢_}
@@ -7,8 +8,8 @@ use Rattle.message.specs.Logs.{Log, Prefix}
 use Rattle.agreement.specs.Sets.{weigh}
 use Rattle.agreement.specs.Reading.{Reading, Grade, LongestLog}
 
--- Beats and agreements go by number, and nothing here says which beats: a calendar gives these (FourBeats). Throughout, r and t are benches, x is a
--- sender, k an agreement, and b, c, s, g are beats.
+-- Beats and agreements go by number, and nothing here says which beats: a calendar gives these (FourBeats). Throughout, r and t are
+-- benches, x is a sender, k an agreement, and b, c, s, g are beats.
 
 -- two different logs of one sender: both taken, both sent on
 pub record Twice (Took Sent : Log → Type 0) : Type 0 where
@@ -88,16 +89,18 @@ pub record Execution (H : Hearing) : Type 1 where
   pub voted-once : {k x : ℕ} {L M : Log} → voted x k L → voted x k M → L ≡ M
   pub voted-sent : {k x : ℕ} {L : Log} → voted x k L → H .sent x (input k) k x L
   -- a vote extends the lock: the longest log with the grade that its voter reads in the agreement before
-  pub voted-lock : {k x : ℕ} {L : Log} → voted x (suc k) L → (K : Log) × LongestLog n w (reading H x k (look k) (input (suc k))) K × Prefix K L
+  pub voted-lock : {k x : ℕ} {L : Log} → voted x (suc k) L
+      → (K : Log) × LongestLog n w (reading H x k (look k) (input (suc k))) K × Prefix K L
   -- every member votes that has a lock; in the first agreement none is needed
   pub votes-first : {x : ℕ} → member 0 x ≡ true → (L : Log) × voted x 0 L
   pub votes-next : {k x : ℕ} → member (suc k) x ≡ true → suc k ≤ last
       → (K : Log) → Grade n w (reading H x k (look k) (input (suc k))) K → (L : Log) × voted x (suc k) L
   -- the premise on the majority, for each agreement in which some rule-keeper is awake between its votes and its look
-  pub majority : (k : ℕ) {r b : ℕ} → H .awake r k b ≡ true → input k ≤ b → b ≤ look k → k ≤ last → weigh n w (breaker k) < weigh n w (member k)
+  pub majority : (k : ℕ) {r b : ℕ} → H .awake r k b ≡ true → input k ≤ b → b ≤ look k → k ≤ last
+      → weigh n w (breaker k) < weigh n w (member k)
 
--- Rule-keeper r may decide L in agreement k: L has the grade, on a snapshot from before the look and read after the next votes. It need not be the
--- longest such log.
+-- Rule-keeper r may decide L in agreement k: L has the grade, on a snapshot from before the look and read after the next votes. It need not
+-- be the longest such log.
 pub record Decides (H : Hearing) (R : Execution H) (r k : ℕ) (L : Log) : Type 0 where
   pub s : ℕ
   pub g : ℕ

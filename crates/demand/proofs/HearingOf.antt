@@ -87,7 +87,8 @@ pub record Place (W : Volume) (r b : ℕ) : Type 0 where
   pub acts : ActsAfter (seat W r) (W .calls r) pre b
   pub heard : heardBy W r b ≡ after (seat W r) pre .heard
 
-pub heard-at : (W : Volume) (r b : ℕ) (pre : List Call) → ActsAfter (seat W r) (W .calls r) pre b → heardBy W r b ≡ after (seat W r) pre .heard
+pub heard-at : (W : Volume) (r b : ℕ) (pre : List Call) → ActsAfter (seat W r) (W .calls r) pre b
+    → heardBy W r b ≡ after (seat W r) pre .heard
 unfolding heardBy
 heard-at W r b pre a = rw (act-heard (seat W r) (W .calls r) pre b a)
 
@@ -120,14 +121,22 @@ module _ (W : Volume) where
 
   sent-of : (r b : ℕ) (p : Place W r b) (h : Content) → SentBy (seat W r) (W .calls r) (after (seat W r) (p .pre)) h → Sent W r b h
   sent-of r b p h s =
-      record { keeps = p .keeps; beat = s .beat; le = upTo-le (after (seat W r) (p .pre)) (s .beat) b (s .upTo) (p .acts .beat); sends = s .sends }
+      record {
+        keeps = p .keeps;
+        beat = s .beat;
+        le = upTo-le (after (seat W r) (p .pre)) (s .beat) b (s .upTo) (p .acts .beat);
+        sends =
+            s .sends;
+      }
 
   pub heard-of : (r b k x : ℕ) (L : Log) → awakeb W r b ≡ true → TookW r b k x L → heardOf (heardLogs (heardBy W r b) k x) ≡ true
   heard-of r b k x L a t =
       let p = awake-place W r b a in
-      rw (p .heard) (heard-S (after (seat W r) (p .pre) .heard) (logBy x k L) (took-mem (seat W r) (W .calls r) (p .pre) b (p .acts) (logBy x k L) t))
+      rw (p .heard) (heard-S (after (seat W r) (p .pre) .heard) (logBy x k L)
+      (took-mem (seat W r) (W .calls r) (p .pre) b (p .acts) (logBy x k L) t))
 
-  pub heard-some : (r b k x : ℕ) → awakeb W r b ≡ true → heardOf (heardLogs (heardBy W r b) k x) ≡ true → (L : Log) × TookW r b k x L × SentW r b k x L
+  pub heard-some : (r b k x : ℕ) → awakeb W r b ≡ true → heardOf (heardLogs (heardBy W r b) k x) ≡ true
+      → (L : Log) × TookW r b k x L × SentW r b k x L
   heard-some r b k x a e =
       let p = awake-place W r b a in
       let st = sent-status (seat W r) (W .calls r) k x (p .pre) _ (p .acts .place .1) in
@@ -141,7 +150,8 @@ module _ (W : Volume) where
       let st = sent-status (seat W r) (W .calls r) k x (p .pre) _ (p .acts .place .1) in
       let y = V-some (after (seat W r) (p .pre) .heard) k x _ st (rw (p .heard) at e) in
       rw (p .heard) (
-        mem-took (seat W r) (W .calls r) (p .pre) b (p .acts) (logBy x k (onlyLog (heardLogs (after (seat W r) (p .pre) .heard) k x))) (y .0),
+        mem-took (seat W r) (W .calls r) (p .pre) b (p .acts) (logBy x k (onlyLog (heardLogs (after (seat W r) (p .pre) .heard) k x)))
+            (y .0),
         sent-of r b p (logBy x k (onlyLog (heardLogs (after (seat W r) (p .pre) .heard) k x))) (y .1),
       )
 
@@ -150,7 +160,8 @@ module _ (W : Volume) where
   single-only r b k x L a e t =
       let p = awake-place W r b a in
       rw (p .heard)
-      (V-only (after (seat W r) (p .pre) .heard) k x L (rw (p .heard) at e) (took-mem (seat W r) (W .calls r) (p .pre) b (p .acts) (logBy x k L) t))
+      (V-only (after (seat W r) (p .pre) .heard) k x L (rw (p .heard) at e)
+      (took-mem (seat W r) (W .calls r) (p .pre) b (p .acts) (logBy x k L) t))
 
   pub single-or : (r b k x : ℕ) → awakeb W r b ≡ true → heardOf (heardLogs (heardBy W r b) k x) ≡ true
       → (votersOf (heardLogs (heardBy W r b) k) x ≡ true) ⊎ Twice (TookW r b k x) (SentW r b k x)
@@ -204,7 +215,8 @@ DeliveryBy close W =
     → (m .sender ≡ q → ⊥)
     → With (seat W q) pre m
 
--- the premise on numbers: in gatherings of beats through which a bench keeps the rules, others take no LOG with its number that it did not make
+-- the premise on numbers: in gatherings of beats through which a bench keeps the rules, others take no LOG with its number that it did not
+-- make
 abbrev pub NumbersBy : (W : Volume) → Keeping W → Type 0
 NumbersBy W K =
     (p q : ℕ) → Keeps W p → Keeps W q
@@ -215,7 +227,8 @@ NumbersBy W K =
 
 module _ (W : Volume) (C : Timetable (W .terms)) (K : Keeping W) where
   -- a LOG that its maker is sent back, it made before
-  own-made : NumbersBy W K → (r s b k : ℕ) (L : Log) → Keeps W r → Keeps W s → K .to s b ≡ true → (r ≡ s → ⊥) → Sends (seat W r) (W .calls r) b (logBy s k L)
+  own-made : NumbersBy W K → (r s b k : ℕ) (L : Log) → Keeps W r → Keeps W s → K .to s b ≡ true → (r ≡ s → ⊥)
+      → Sends (seat W r) (W .calls r) b (logBy s k L)
       → (c : ℕ) → b < c → TookW W s c k s L
   own-made N r s b k L kr ks to d (sendsMade pre t) c l = absurd (d (sym (C .made-own t)))
   own-made N r s b k L kr ks to d (sendsOn pre t f) c l =
@@ -224,7 +237,8 @@ module _ (W : Volume) (C : Timetable (W .terms)) (K : Keeping W) where
       let w : C .input k ≤ b = C .taken-late t in
       tookMade (y .0) (y .1) (y .2) (omega arith)
 
-  pub delivery : DeliveryBy (C .close) W → NumbersBy W K → (r s b c k x : ℕ) (L : Log) → SentW W r b k x L → (r ≡ s → ⊥) → awakeb W s c ≡ true → b < c → c ≤ C .close k
+  pub delivery : DeliveryBy (C .close) W → NumbersBy W K → (r s b c k x : ℕ) (L : Log) → SentW W r b k x L → (r ≡ s → ⊥)
+      → awakeb W s c ≡ true → b < c → c ≤ C .close k
       → TookW W s c k x L
   unfolding awakeb
   delivery D N r s b c k x L sent d a l m =
@@ -241,7 +255,8 @@ module _ (W : Volume) (C : Timetable (W .terms)) (K : Keeping W) where
             (own-made N r s (sent .beat) k L (sent .keeps) ks (K .to-before (omega arith) (K .awake-to a)) d
             (subst (λ (z : ℕ). Sends (seat W r) (W .calls r) (sent .beat) (logBy z k L)) e (sent .sends)) c (omega arith))
         | no e ↦ with-took (seat W s) (W .calls s) (y .0) (f .beat) (y .1) (logBy x k L)
-            (D r s (sent .keeps) ks d (sent .beat) (logBy x k L) (sent .sends) (y .0) (f .beat) (y .1) (f .past) (f .none-before) (omega arith) e)
+            (D r s (sent .keeps) ks d (sent .beat) (logBy x k L) (sent .sends) (y .0) (f .beat) (y .1) (f .past) (f .none-before)
+            (omega arith) e)
             c (omega arith)
       ]
 

@@ -31,7 +31,8 @@ unfolding any
 any-use p [] e = absurd (false≢true e)
 any-use {A} p (y ∷ ys) e = go (p y) refl e (λ q. any-use p ys q)
   where
-    go : (t : Bool) → p y ≡ t → (t || any p ys) ≡ true → (any p ys ≡ true → (x : A) × Mem x ys × (p x ≡ true)) → (x : A) × Mem x (y ∷ ys) × (p x ≡ true)
+    go : (t : Bool) → p y ≡ t → (t || any p ys) ≡ true → (any p ys ≡ true → (x : A) × Mem x ys × (p x ≡ true))
+        → (x : A) × Mem x (y ∷ ys) × (p x ≡ true)
     go true q f below = (y, List·Memᴰ·head refl, q)
     go false q f below = let z = below f in (z .0, List·Memᴰ·tail (z .1), z .2)
 

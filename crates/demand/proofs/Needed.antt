@@ -1,5 +1,5 @@
--- No premise of demand 3 is idle: without any one of them there is a volume that meets the other two and in which two decided logs conflict.
--- Assumes nothing.
+-- No premise of demand 3 is idle: without any one of them there is a volume that meets the other two and in which two decided logs
+-- conflict. Assumes nothing.
 use Prim.Native.Nat.{ℕ, _≤_}
 use native.Mathlib.Omega.{arith}
 use mathlib.Core.Path.{_≡_, refl, ap}
@@ -39,10 +39,12 @@ pub record Parts (W : Volume) : Type 0 where
 pub parts-fails : (W : Volume) → Parts W → Delivery W → Numbers W → Majority W → ⊥
 parts-fails W x D N J =
     no-conflict-iff (x .log-one) (x .log-other) .1
-    (no-conflict W D N J (x .one) (x .other) (x .one-keeps) (x .other-keeps) (x .log-one) (x .log-other) (x .one-decides) (x .other-decides)) (x .conflict)
+    (no-conflict W D N J (x .one) (x .other) (x .one-keeps) (x .other-keeps) (x .log-one) (x .log-other) (x .one-decides)
+    (x .other-decides)) (x .conflict)
 
 parts : (W : Volume) (i j : ℕ) → W .terms .n ≤ mostSenders → volumeTypedb W ≡ true → Keeps W i → Keeps W j
-    → Mem five (decidedIn (after (seat W i) (W .calls i) .actions)) → Mem seven (decidedIn (after (seat W j) (W .calls j) .actions)) → Parts W
+    → Mem five (decidedIn (after (seat W i) (W .calls i) .actions)) → Mem seven (decidedIn (after (seat W j) (W .calls j) .actions))
+    → Parts W
 parts W i j r t ki kj d e = record {
   range = r;
   typed = volume-typed W t;
@@ -60,7 +62,8 @@ parts W i j r t ki kj d e = record {
   );
 }
 
--- ---- without the majority: benches 0 and 1 and a rule-breaker 2. Bench 0 is awake alone in view 0 and decides [5]; when bench 1 wakes, that view's
+-- ---- without the majority: benches 0 and 1 and a rule-breaker 2. Bench 0 is awake alone in view 0 and decides [5]; when bench 1 wakes,
+-- that view's
 -- window has passed, and it hears 2 only, who sends [7] in view 2.
 
 early : List Call
@@ -102,7 +105,8 @@ delivery-needed = (
   parts apart 0 1 (omega arith) refl (omega arith, refl) (omega arith, refl) (List·Memᴰ·head refl) (List·Memᴰ·head refl),
 )
 
--- ---- without numbers: three rule-keepers, of which 0 alone ever wakes. It decides [5]; at beat 6 it takes LOGs of view 1 that bear the numbers 1 and
+-- ---- without numbers: three rule-keepers, of which 0 alone ever wakes. It decides [5]; at beat 6 it takes LOGs of view 1 that bear the
+-- numbers 1 and
 -- 2, who made none, and at beat 10 it decides their log.
 
 deceived : List Call

@@ -1,5 +1,5 @@
--- What a rule-keeper makes or passes on can be handed to every bench of its volume, so the premise on delivery asks nothing that cannot be done.
--- Assumes nothing.
+-- What a rule-keeper makes or passes on can be handed to every bench of its volume, so the premise on delivery asks nothing that cannot be
+-- done. Assumes nothing.
 use Prim.Native.Nat.{ℕ, _≤_, _<_}
 use native.Mathlib.Omega.{arith}
 use mathlib.Core.Path.{_≡_, subst}

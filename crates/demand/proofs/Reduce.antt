@@ -30,7 +30,8 @@ agreement : (M : Machine) → Faithful M → (W : Volume) (from : ℕ → State)
 agreement M F W from events given made typed D N J = record {
   no-conflict = λ i j ki kj L K d e. no-conflict-iff L K .1 (no-conflict W D N J i j ki kj L K d e);
   stands = λ i k pre post e.
-      let s = F .stood (W .terms) i (from i) pre (given i k) (typed-start (callsIn pre) (callsIn post) (subst AllTyped (split i k pre post e) (typed i k))) in
+      let s = F .stood (W .terms) i (from i) pre (given i k)
+      (typed-start (callsIn pre) (callsIn post) (subst AllTyped (split i k pre post e) (typed i k))) in
       let x = inside i k pre post e in
       (subst (λ (st : Stand). LongestDecided (seat W i) (callsIn pre) (st .log)) (sym s) (x .0), ap (λ (st : Stand). st .parted) s ∙ x .1);
 }
@@ -39,14 +40,17 @@ agreement M F W from events given made typed D N J = record {
     split i k pre post e = sym (made i k) ∙ ap callsIn e ∙ callsIn-append pre post
 
     -- decided in a start of the list, so in the list
-    whole : (i : ℕ) (k : Keeps W i) (pre post : List Event) (e : events i ≡ pre ++ post) (L : Log) → Decides (seat W i) (callsIn pre) L → Decides (seat W i) (W .calls i) L
+    whole : (i : ℕ) (k : Keeps W i) (pre post : List Event) (e : events i ≡ pre ++ post) (L : Log) → Decides (seat W i) (callsIn pre) L
+        → Decides (seat W i) (W .calls i) L
     whole i k pre post e L d =
-        subst (λ (l : List Call). Decides (seat W i) l L) (sym (split i k pre post e)) (decides-start (seat W i) (callsIn pre) (callsIn post) L d)
+        subst (λ (l : List Call). Decides (seat W i) l L) (sym (split i k pre post e))
+        (decides-start (seat W i) (callsIn pre) (callsIn post) L d)
 
     inside : (i : ℕ) → Keeps W i → (pre post : List Event) → events i ≡ pre ++ post
         → LongestDecided (seat W i) (callsIn pre) (stand (seat W i) (callsIn pre) .log) × (stand (seat W i) (callsIn pre) .parted ≡ false)
     inside i k pre post e =
-        stands-longest (W .terms) i (callsIn pre) (λ L K d f. no-conflict W D N J i i k k L K (whole i k pre post e L d) (whole i k pre post e K f))
+        stands-longest (W .terms) i (callsIn pre)
+        (λ L K d f. no-conflict W D N J i i k k L K (whole i k pre post e L d) (whole i k pre post e K f))
 
 pub demand3 : (M : Machine) → Faithful M → Demand3 M
 demand3 M F = record { alone = F; agrees = agreement M F }
@@ -61,11 +65,14 @@ pub record Simulation (M : Machine) : Type 1 where
   pub same-answer : (S : Seat) (w : Way) (x : State) (p : History) (c : Call) → Rel S x p → Typed c → call M w x c .answer ≡ answer S p c
   pub keeps : (S : Seat) (w : Way) (x : State) (p : History) (c : Call) → Rel S x p → Typed c → Rel S (call M w x c .held) (step S p c)
   pub same-standing : (S : Seat) (x : State) (p : History) → Rel S x p → standing x ≡ standIn (S .stood) (p .actions)
-  pub refusals : (S : Seat) (w : Way) (x : State) (p : History) (c : Call) (k : ℕ) → Rel S x p → Typed c → refusal S p c ≡ some k → call M w x c .held ≡ x
-  pub begins : (S : Seat) (w : Way) (x : State) (p : History) (b : ℕ) → Rel S x p → Typed (begin b) → call M w x (begin b) .held .lent ≡ x .lent
+  pub refusals : (S : Seat) (w : Way) (x : State) (p : History) (c : Call) (k : ℕ) → Rel S x p → Typed c → refusal S p c ≡ some k
+      → call M w x c .held ≡ x
+  pub begins : (S : Seat) (w : Way) (x : State) (p : History) (b : ℕ) → Rel S x p → Typed (begin b)
+      → call M w x (begin b) .held .lent ≡ x .lent
 
 module _ (M : Machine) (I : Simulation M) (S : Seat) where
-  sim-answers : (es : List Event) (x : State) (p : History) → I .Rel S x p → AllTyped (callsIn es) → answers M x es ≡ answersFrom S p (callsIn es)
+  sim-answers : (es : List Event) (x : State) (p : History) → I .Rel S x p → AllTyped (callsIn es)
+      → answers M x es ≡ answersFrom S p (callsIn es)
   unfolding answers callsIn
   sim-answers [] x p r t = sym (answersFrom-nil S p)
   sim-answers (e ∷ es) x p r t =
@@ -73,7 +80,8 @@ module _ (M : Machine) (I : Simulation M) (S : Seat) where
       let b = sim-answers es (call M (e .way) x (e .what) .held) (step S p (e .what)) (I .keeps S (e .way) x p (e .what) r (t .0)) (t .1) in
       (λ i. a i ∷ b i) ∙ sym (answersFrom-cons S p (e .what) (callsIn es))
 
-  sim-runs : (es : List Event) (x : State) (p : History) → I .Rel S x p → AllTyped (callsIn es) → I .Rel S (runs M x es) (afterFrom S p (callsIn es))
+  sim-runs : (es : List Event) (x : State) (p : History) → I .Rel S x p → AllTyped (callsIn es)
+      → I .Rel S (runs M x es) (afterFrom S p (callsIn es))
   unfolding runs callsIn
   sim-runs [] x p r t = subst (I .Rel S x) (sym (afterFrom-nil S p)) r
   sim-runs (e ∷ es) x p r t =
@@ -90,10 +98,13 @@ faithful M I = record {
   answered = λ T own x es o t.
       sim-answers M I (seatOf T own) es x (fresh (seatOf T own)) (I .opens T own x o) t ∙ sym (answersTo-from (seatOf T own) (callsIn es));
   stood = λ T own x es o t.
-      I .same-standing (seatOf T own) (runs M x es) (after (seatOf T own) (callsIn es)) (sim-all M I (seatOf T own) es x (I .opens T own x o) t)
+      I .same-standing (seatOf T own) (runs M x es) (after (seatOf T own) (callsIn es))
+      (sim-all M I (seatOf T own) es x (I .opens T own x o) t)
       ∙ sym (stand-in (seatOf T own) (callsIn es));
   refusals = λ T own x es w c k o t y e.
-      I .refusals (seatOf T own) w (runs M x es) (after (seatOf T own) (callsIn es)) c k (sim-all M I (seatOf T own) es x (I .opens T own x o) t) y e;
+      I .refusals (seatOf T own) w (runs M x es) (after (seatOf T own) (callsIn es)) c k
+      (sim-all M I (seatOf T own) es x (I .opens T own x o) t) y e;
   begins = λ T own x es w b o t y.
-      I .begins (seatOf T own) w (runs M x es) (after (seatOf T own) (callsIn es)) b (sim-all M I (seatOf T own) es x (I .opens T own x o) t) y;
+      I .begins (seatOf T own) w (runs M x es) (after (seatOf T own) (callsIn es)) b
+      (sim-all M I (seatOf T own) es x (I .opens T own x o) t) y;
 }

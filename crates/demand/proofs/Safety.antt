@@ -44,7 +44,8 @@ module _ (H : Hearing) (R : Execution H) where
       ]
 
   -- who is heard is a member or a breaker
-  heard-cover : {t k g x : ℕ} → H .awake t k g ≡ true → g ≤ H .close k → H .heard t g k x ≡ true → (R .member k x ≡ true) ⊎ (R .breaker k x ≡ true)
+  heard-cover : {t k g x : ℕ} → H .awake t k g ≡ true → g ≤ H .close k → H .heard t g k x ≡ true
+      → (R .member k x ≡ true) ⊎ (R .breaker k x ≡ true)
   heard-cover {k = k} {x = x} a i e =
       either (R .breaker k x) inr (λ p. inl (R .voted-member (R .numbers a i (H .heard-some a e .1) p) p))
 
@@ -52,7 +53,8 @@ module _ (H : Hearing) (R : Execution H) where
     all-grade : (L : Log) → Extends L k → Grade (R .n) (R .w) (reading H t k s g) L
     unfolding reading
     all-grade L ext = validity (R .n) (R .w) (reading H t k s g) (R .member k) (R .breaker k) L
-        (λ x i m. may-iff (reading H t k s g) x .1 (counts x m .0, member-single (all x m .1) m (T .snaps) after (omega (arith, T .order, T .in-window)) .0))
+        (λ x i m. may-iff (reading H t k s g) x .1
+        (counts x m .0, member-single (all x m .1) m (T .snaps) after (omega (arith, T .order, T .in-window)) .0))
         (λ x i m. rw (counts x m .1) at (ext x (all x m .0) (all x m .1) m))
         (λ x i e. heard-cover (T .acts) (T .in-window) e)
         (R .majority k (T .snaps) (omega arith) until kl)
@@ -76,7 +78,8 @@ module _ (H : Hearing) (R : Execution H) where
   all-vote (suc k) kl x m = R .votes-next m kl [] (lock-grade k x [] m (all-vote k (omega arith)) (omega arith) (λ y M v n. empty))
 
   -- a vote extends every log with the grade that its lock has
-  lock-extends : (k x : ℕ) (L M : Log) → Grade (R .n) (R .w) (reading H x k (R .look k) (R .input (suc k))) L → R .voted x (suc k) M → Prefix L M
+  lock-extends : (k x : ℕ) (L M : Log) → Grade (R .n) (R .w) (reading H x k (R .look k) (R .input (suc k))) L → R .voted x (suc k) M
+      → Prefix L M
   lock-extends k x L M g v = let lock = R .voted-lock v in prefix-trans (lock .1 .longest L g) (lock .2)
 
   -- ---- what is decided in k, all later votes extend
@@ -98,7 +101,8 @@ module _ (H : Hearing) (R : Execution H) where
   later : {r k t m : ℕ} {L M : Log} → Decides H R r k L → Decides H R t m M → k < m → Compatible L M
   later {r} {k} {t} {m} {L} {M} d e l =
       one-reading H (e .reads) (R .n) (R .w) L M
-      (all-grade (e .reads) (e .after-input) (omega (arith, e .before-look)) (all-vote m (e .in-range)) (e .in-range) L (decided-stays d m l (e .in-range)))
+      (all-grade (e .reads) (e .after-input) (omega (arith, e .before-look)) (all-vote m (e .in-range)) (e .in-range) L
+      (decided-stays d m l (e .in-range)))
       (e .grade)
 
   same : {r t k : ℕ} {L M : Log} → Decides H R r k L → Decides H R t k M → Compatible L M

@@ -19,7 +19,8 @@ use Rattle.agreement.proofs.SenderLaws.{Status, no-log, status-add, status-map}
 use Rattle.bench.specs.Terms.{Seat}
 use Rattle.bench.specs.Calls.{Call, begin, receive, act, took}
 use Rattle.bench.specs.History.{History, refusal, file, fileMade, closed, accepted, madeBy, decidedBy, after, wordFor}
-use Rattle.bench.proofs.CallLaws.{act-ok, receive-ok, taken-reply, word-log, log-heard, proposal-heard, accepted-begin, accepted-receive, accepted-act}
+use Rattle.bench.proofs.CallLaws.{act-ok, receive-ok, taken-reply, word-log, log-heard, proposal-heard, accepted-begin, accepted-receive}
+use Rattle.bench.proofs.CallLaws.{accepted-act}
 use Rattle.demand.specs.Places.{At, MakesAfter, TakesAfter, PassedOn, Sends, sendsMade, sendsOn}
 use Rattle.demand.proofs.Starts.{along}
 use Rattle.demand.proofs.Beats.{UpTo, upTo-now, upTo-step, has-beat}
@@ -52,7 +53,8 @@ module _ (S : Seat) (cs : List Call) (v s : ℕ) where
 
   -- the word on a LOG is the word on its sender's logs
   fresh-word : (p : History) (h : Content) → h .view ≡ v → h .sender ≡ s
-      → (wordOn sameLog (heardLogs (p .heard) v s) (h .log) ≡ first) ⊎ (wordOn sameLog (heardLogs (p .heard) v s) (h .log) ≡ second) → Fresh p h
+      → (wordOn sameLog (heardLogs (p .heard) v s) (h .log) ≡ first) ⊎ (wordOn sameLog (heardLogs (p .heard) v s) (h .log) ≡ second)
+      → Fresh p h
   fresh-word p h ev es w = rw (word-log p h, ev, es) w
 
   -- a call that adds the LOG h, which is sent on where it is fresh
@@ -71,13 +73,15 @@ module _ (S : Seat) (cs : List Call) (v s : ℕ) where
       by : h .view ≡ v → h .sender ≡ s → h ≡ logBy s v (h .log)
       by ev es i = record { sender = es i; view = ev i; log = h .log }
 
-      go : (t : Bool) → (eqb (h .view) v && eqb (h .sender) s) ≡ t → Status (SentLog q) (pick t (h .log ∷ logsFrom (p .heard) v s) (logsFrom (p .heard) v s))
+      go : (t : Bool) → (eqb (h .view) v && eqb (h .sender) s) ≡ t
+          → Status (SentLog q) (pick t (h .log ∷ logsFrom (p .heard) v s) (logsFrom (p .heard) v s))
       go false f = old
       go true f =
           let x = and-eq-true-iff _ _ .0 f in
           let ev = eqb-true (h .view) v (x .0) in
           let es = eqb-true (h .sender) s (x .1) in
-          status-add (SentLog q) (logsFrom (p .heard) v s) (h .log) (λ w. subst (SentBy S cs q) (by ev es) (sent (fresh-word p h ev es w))) old
+          status-add (SentLog q) (logsFrom (p .heard) v s) (h .log)
+          (λ w. subst (SentBy S cs q) (by ev es) (sent (fresh-word p h ev es w))) old
 
   sound-receive : (pre : List Call) (bytes : List ℕ) → At cs pre (receive bytes) → refusal S (after S pre) (receive bytes) ≡ none
       → Sound (after S pre) → Sound (accepted S (after S pre) (receive bytes))
@@ -122,7 +126,8 @@ module _ (S : Seat) (cs : List Call) (v s : ℕ) where
       go (some (proposalMessage h k)) e = sound-same p (act x r o) ok g (heardIs (some (proposalMessage h k)) e ∙ proposal-heard shut h k)
       go (some (logMessage h)) e =
           let b = has-beat S pre (act-ok S p x r o ok .1) in
-          let t : MakesAfter S cs pre (b .0) h = record { acts = record { block = x; priority = r; out = o; place = at; ok = ok; beat = b .1 }; made = e } in
+          let t : MakesAfter S cs pre (b .0) h =
+          record { acts = record { block = x; priority = r; out = o; place = at; ok = ok; beat = b .1 }; made = e } in
           sound-more p (act x r o) ok g h (heardIs (some (logMessage h)) e ∙ log-heard shut h) (λ w. record {
             beat = b .0;
             sends = sendsMade pre t;
@@ -136,6 +141,7 @@ module _ (S : Seat) (cs : List Call) (v s : ℕ) where
   sound-step pre (receive bytes) at ok g = sound-receive pre bytes at ok g
   sound-step pre (act x r o) at ok g = sound-act pre x r o at ok g
 
-  -- After any start of the list a sender's LOGs of a view are none, or one log that was sent on, or more than one, and two different ones were.
+  -- After any start of the list a sender's LOGs of a view are none, or one log that was sent on, or more than one, and two different ones
+  -- were.
   pub sent-status : (pre post : List Call) → cs ≡ pre ++ post → Status (SentLog (after S pre)) (logsFrom (after S pre .heard) v s)
   sent-status = along S cs Sound (no-log (logsFrom-nil v s)) sound-step

@@ -19,7 +19,8 @@ module _ (S : Seat) (cs : List Call) where
   -- the reading of view u after `pre`, with the snapshot taken after `start`
   abbrev pub ReadAfter : List Call → ℕ → List Call → Log → Type 0
   ReadAfter pre u start L =
-      LongestLog (S .terms .n) (weightOf (S .terms)) (readingFrom (heardLogs (after S pre .heard) u) (votersOf (heardLogs (after S start .heard) u))) L
+      LongestLog (S .terms .n) (weightOf (S .terms))
+      (readingFrom (heardLogs (after S pre .heard) u) (votersOf (heardLogs (after S start .heard) u))) L
 
   -- L is that reading's longest log, the snapshot being of beat s
   pub record GradedAt (pre : List Call) (u s : ℕ) (L : Log) : Type 0 where
@@ -28,7 +29,8 @@ module _ (S : Seat) (cs : List Call) where
     pub longest : ReadAfter pre u start L
 
   pub graded-at : (pre post : List Call) → cs ≡ pre ++ post → (u s : ℕ) (L : Log)
-      → gradeWith (S .terms .n) (weightOf (S .terms)) (heardLogs (after S pre .heard) u) (snapshotOf u (heardAt (after S pre .actions) s)) ≡ some L → GradedAt pre u s L
+      → gradeWith (S .terms .n) (weightOf (S .terms)) (heardLogs (after S pre .heard) u)
+      (snapshotOf u (heardAt (after S pre .actions) s)) ≡ some L → GradedAt pre u s L
   graded-at pre post e u s L q = go (heardAt (after S pre .actions) s) refl q
     where
       go : (o : Option (List Content)) → heardAt (after S pre .actions) s ≡ o
@@ -42,5 +44,6 @@ module _ (S : Seat) (cs : List Call) where
             start = z .0;
             acts = z .1;
             longest =
-                subst (λ (h : List Content). LongestLog (S .terms .n) (weightOf (S .terms)) (readingFrom (heardLogs (after S pre .heard) u) (votersOf (heardLogs h u))) L) (z .2) y;
+                subst (λ (h : List Content). LongestLog (S .terms .n) (weightOf (S .terms))
+                (readingFrom (heardLogs (after S pre .heard) u) (votersOf (heardLogs h u))) L) (z .2) y;
           }

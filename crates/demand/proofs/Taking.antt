@@ -1,5 +1,5 @@
--- What one bench has taken or made by the act of a beat: the same as what that act has heard, taken within the window, and with what was handed to
--- it. Also: the beat of an act was begun. Assumes nothing.
+-- What one bench has taken or made by the act of a beat: the same as what that act has heard, taken within the window, and with what was
+-- handed to it. Also: the beat of an act was begun. Assumes nothing.
 use Prim.Native.Nat.{ℕ, _≤_, _<_}
 use native.Mathlib.Omega.{arith}
 use mathlib.Core.Path.{_≡_, sym, ap, subst, _∙_}
@@ -38,7 +38,8 @@ module _ (S : Seat) (cs : List Call) where
   ]
 
   -- a LOG is taken within its window
-  pub taken-window : (pre : List Call) (b : ℕ) (h : Content) → TakesAfter S cs pre b h → (inputBeat (h .view) ≤ b) × (b ≤ closeBeat (h .view))
+  pub taken-window : (pre : List Call) (b : ℕ) (h : Content) → TakesAfter S cs pre b h
+      → (inputBeat (h .view) ≤ b) × (b ≤ closeBeat (h .view))
   taken-window pre b h t =
       let p = after S pre in
       let x = and-eq-true-iff _ _ .0 (receive-open S p (t .bytes) (logMessage h) (t .ok) (t .read)) in
@@ -65,7 +66,8 @@ module _ (S : Seat) (cs : List Call) where
       let end = act (a .block) (a .priority) (a .out) ∷ a .place .0 in
       let e : cs ≡ x .before ++ (receive (x .bytes) ∷ (rest ++ end)) =
       a .place .1 ∙ ap (λ (l : List Call). l ++ end) (x .place .1) ∙ append-assoc (x .before) (receive (x .bytes) ∷ rest) end in
-      let k = last-grows (x .before) (receive (x .bytes) ∷ rest) (b .0) f (b .1) (ap (λ (l : List Call). after S l .last) (sym (x .place .1)) ∙ a .beat) in
+      let k = last-grows (x .before) (receive (x .bytes) ∷ rest) (b .0) f (b .1)
+      (ap (λ (l : List Call). after S l .last) (sym (x .place .1)) ∙ a .beat) in
       tookTaken (x .before) (b .0)
       (record {
         bytes = x .bytes;

@@ -1,4 +1,4 @@
--- Demand 3 of the bench: its record and lists stay refined to its history, call by call, and so it is faithful. Assumes nothing.
+-- Demand 3 of the bench: its record and lists refine its history, call by call, and so it is faithful. Assumes nothing.
 use Prim.Native.Nat.{ℕ}
 use mathlib.Core.Bool.{false}
 use mathlib.Core.Option.{some, none}
@@ -28,7 +28,8 @@ either-way onLent x (receive bytes) = refl
 either-way onLent x (act block priority out) = refl
 
 -- each call agrees with the history's
-agrees-by-value : (S : Seat) (x : State) (p : History) (c : Call) → Refines S (coreOf x) p → Typed c → Agrees S x p c (call theBench byValue x c)
+agrees-by-value : (S : Seat) (x : State) (p : History) (c : Call) → Refines S (coreOf x) p → Typed c
+    → Agrees S x p c (call theBench byValue x c)
 agrees-by-value S x p (begin b) t y = begin-agrees S x p t b
 agrees-by-value S x p (receive bytes) t y = receive-agrees S x p t bytes (y .0)
 agrees-by-value S x p (act block priority out) t y = act-agrees S x p t block priority out y
@@ -42,7 +43,9 @@ module _ (T : Terms) (own : ℕ) (l : Lent) where
   refuses : (k : ℕ) → openRefusal (seatOf T own) l ≡ some k → openOf (T .n) own l .reply ≡ refused k
   refuses k r = ap (λ (o : Opening). o .reply) (open-refused (T .n) own l k (sym (open-same T own l) ∙ r))
 
-  opens : openRefusal (seatOf T own) l ≡ none → (openOf (T .n) own l .reply ≡ done) × (openOf (T .n) own l .bench .decided ≡ 0) × (isYes (openOf (T .n) own l .bench .parted) ≡ false)
+  opens : openRefusal (seatOf T own) l ≡ none
+      → (openOf (T .n) own l .reply ≡ done) × (openOf (T .n) own l .bench .decided ≡ 0) ×
+      (isYes (openOf (T .n) own l .bench .parted) ≡ false)
   opens r = rw (open-done (T .n) own l (sym (open-same T own l) ∙ r)) (refl, refl, refl)
 
   -- a bench that Open gave is fresh, and 7 and 8 do not hold
@@ -59,7 +62,8 @@ opens-rightly = record { refuses = λ T own l k t e. refuses T own l k e; opens 
 opens-refined : (T : Terms) (own : ℕ) (x : State) → OpenedAs theBench T own x → Refines (seatOf T own) (coreOf x) (fresh (seatOf T own))
 opens-refined T own x o =
     let g = given-fresh T own (x .lent) (x .bench) (o .given) in
-    subst (λ (b : Bench). Refines (seatOf T own) (record { bench = b; names = x .lent .names; counts = x .lent .counts }) (fresh (seatOf T own))) (g .2)
+    subst (λ (b : Bench). Refines (seatOf T own) (record { bench = b; names = x .lent .names; counts = x .lent .counts })
+    (fresh (seatOf T own))) (g .2)
     (open-refines T own (x .lent) (g .0) (g .1) (o .typed .names .0) (o .typed .counts .0))
 
 -- ---- the theorem

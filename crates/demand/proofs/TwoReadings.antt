@@ -1,4 +1,5 @@
--- Two readings of one agreement, by the beats of their snapshots and counts: when their grades agree, and when one has the other's. Assumes nothing.
+-- Two readings of one agreement, by the beats of their snapshots and counts: when their grades agree, and when one has the other's. Assumes
+-- nothing.
 use Prim.Native.Nat.{ℕ, _<_, _≤_}
 use native.Mathlib.Decide.{ℕ-discrete}
 use native.Mathlib.Omega.{arith}

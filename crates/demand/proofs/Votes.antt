@@ -1,4 +1,5 @@
--- A volume that meets the premises, by any calendar with a Timetable, votes as `Execution` says, so no two logs decided in it conflict. Assumes nothing.
+-- A volume that meets the premises, by any calendar with a Timetable, votes as `Execution` says, so no two logs decided in it conflict.
+-- Assumes nothing.
 use Prim.Native.Nat.{ℕ, zero, suc, _≤_, _<_}
 use native.Mathlib.Omega.{arith}
 use native.Mathlib.Nat.{le-refl}
@@ -25,7 +26,8 @@ use Rattle.demand.proofs.Beats.{Order, same, before, behind, ordered, l
 use Rattle.demand.proofs.Snapshots.{ReadAfter}
 use Rattle.demand.proofs.Taking.{Took, tookTaken, tookMade}
 use Rattle.demand.proofs.Timetable.{Timetable, GradeAfter}
-use Rattle.demand.proofs.HearingOf.{awakeb, Keeping, DeliveryBy, NumbersBy, heardBy, keeps-of, Sent, heard-at, awake-place, place-awake, hearing}
+use Rattle.demand.proofs.HearingOf.{awakeb, Keeping, DeliveryBy, NumbersBy, heardBy, keeps-of, Sent, heard-at, awake-place}
+use Rattle.demand.proofs.HearingOf.{place-awake, hearing}
 
 -- ---- one LOG a beat
 
@@ -101,7 +103,8 @@ module _ (W : Volume) (C : Timetable (W .terms)) (Q : Keeping W) where
       voted-of x k (y .1) L kx (y .0) (y .2)
   numbers N r b k x L a i (tookMade pre c t l) e =
       let q : x ≡ r = C .made-own t in
-      voted-of x k c L (keeps-of W x (Q .to-keeps e)) pre (subst (λ (z : ℕ). MakesAfter (seat W z) (W .calls z) pre c (logBy x k L)) (sym q) t)
+      voted-of x k c L (keeps-of W x (Q .to-keeps e)) pre
+      (subst (λ (z : ℕ). MakesAfter (seat W z) (W .calls z) pre c (logBy x k L)) (sym q) t)
 
   voted-acts : (k x : ℕ) (L : Log) → Voted x k L → awakeb W x (C .input k) ≡ true
   voted-acts k x L d = place-awake W x (C .input k) (d .keeps) (d .pre) (d .made .acts)
@@ -130,24 +133,30 @@ module _ (W : Volume) (C : Timetable (W .terms)) (Q : Keeping W) where
 
   voted-once : (k x : ℕ) (L M : Log) → Voted x k L → Voted x k M → L ≡ M
   voted-once k x L M d e =
-      ap (λ (m : Content). m .log) (made-once (seat W x) (W .calls x) (d .pre) (e .pre) (C .input k) (logBy x k L) (logBy x k M) (d .made) (e .made))
+      ap (λ (m : Content). m .log)
+      (made-once (seat W x) (W .calls x) (d .pre) (e .pre) (C .input k) (logBy x k L) (logBy x k M) (d .made) (e .made))
 
   voted-sent : (k x : ℕ) (L : Log) → Voted x k L → Sent W x (C .input k) (logBy x k L)
   voted-sent k x L d = record { keeps = d .keeps; beat = C .input k; le = le-refl (C .input k); sends = sendsMade (d .pre) (d .made) }
 
   module _ (D : DeliveryBy (C .close) W) (N : NumbersBy W Q) where
     -- the reading of two acts, as the Hearing has it
-    longest-read : (x k s g : ℕ) (start pre : List Call) (K : Log) → ActsAfter (seat W x) (W .calls x) start s → ActsAfter (seat W x) (W .calls x) pre g
-        → ReadAfter (seat W x) (W .calls x) pre k start K → LongestLog (W .terms .n) (weightOf (W .terms)) (reading (hearing W C Q D N) x k s g) K
+    longest-read : (x k s g : ℕ) (start pre : List Call) (K : Log) → ActsAfter (seat W x) (W .calls x) start s
+        → ActsAfter (seat W x) (W .calls x) pre g
+        → ReadAfter (seat W x) (W .calls x) pre k start K
+        → LongestLog (W .terms .n) (weightOf (W .terms)) (reading (hearing W C Q D N) x k s g) K
     unfolding reading hearing
     longest-read x k s g start pre K a b q =
         let i = sym (heard-at W x g pre b) in
         let j = sym (heard-at W x s start a) in
-        subst (λ (l : List Content). LongestLog (W .terms .n) (weightOf (W .terms)) (readingFrom (heardLogs l k) (votersOf (heardLogs (heardBy W x s) k))) K) i
-        (subst (λ (l : List Content). LongestLog (W .terms .n) (weightOf (W .terms)) (readingFrom (heardLogs (after (seat W x) pre .heard) k) (votersOf (heardLogs l k))) K) j q)
+        subst (λ (l : List Content). LongestLog (W .terms .n) (weightOf (W .terms))
+        (readingFrom (heardLogs l k) (votersOf (heardLogs (heardBy W x s) k))) K) i
+        (subst (λ (l : List Content). LongestLog (W .terms .n) (weightOf (W .terms))
+        (readingFrom (heardLogs (after (seat W x) pre .heard) k) (votersOf (heardLogs l k))) K) j q)
 
     voted-lock : (k x : ℕ) (L : Log) → Voted x (suc k) L
-        → (K : Log) × LongestLog (W .terms .n) (weightOf (W .terms)) (reading (hearing W C Q D N) x k (C .look k) (C .input (suc k))) K × Prefix K L
+        → (K : Log) × LongestLog (W .terms .n) (weightOf (W .terms))
+        (reading (hearing W C Q D N) x k (C .look k) (C .input (suc k))) K × Prefix K L
     voted-lock k x L d =
         let y = C .made-lock (d .made) in
         let g = y .1 in
@@ -161,15 +170,18 @@ module _ (W : Volume) (C : Timetable (W .terms)) (Q : Keeping W) where
         (y .0, record { keeps = p .keeps; pre = p .pre; made = y .1 })
 
     votes-next : (k x : ℕ) → memberOf (suc k) x ≡ true → suc k ≤ C .last
-        → (K : Log) → Grade (W .terms .n) (weightOf (W .terms)) (reading (hearing W C Q D N) x k (C .look k) (C .input (suc k))) K → (L : Log) × Voted x (suc k) L
+        → (K : Log) → Grade (W .terms .n) (weightOf (W .terms)) (reading (hearing W C Q D N) x k (C .look k) (C .input (suc k))) K
+        → (L : Log) × Voted x (suc k) L
     unfolding reading hearing
     votes-next k x e l K g =
         let both = member-parts k x e in
         let p = awake-place W x (C .look k) (both .0) in
         let q = awake-place W x (C .input (suc k)) (both .1) in
         let h : GradeAfter (seat W x) (q .pre) k (p .pre) K =
-        subst (λ (l : List Content). Grade (W .terms .n) (weightOf (W .terms)) (readingFrom (heardLogs (after (seat W x) (q .pre) .heard) k) (votersOf (heardLogs l k))) K) (p .heard)
-        (subst (λ (l : List Content). Grade (W .terms .n) (weightOf (W .terms)) (readingFrom (heardLogs l k) (votersOf (heardLogs (heardBy W x (C .look k)) k))) K) (q .heard) g) in
+        subst (λ (l : List Content). Grade (W .terms .n) (weightOf (W .terms))
+        (readingFrom (heardLogs (after (seat W x) (q .pre) .heard) k) (votersOf (heardLogs l k))) K) (p .heard)
+        (subst (λ (l : List Content). Grade (W .terms .n) (weightOf (W .terms))
+        (readingFrom (heardLogs l k) (votersOf (heardLogs (heardBy W x (C .look k)) k))) K) (q .heard) g) in
         let y = C .next-made l (p .acts) (q .acts) K h in
         (y .0, record { keeps = q .keeps; pre = q .pre; made = y .1 })
 
@@ -202,7 +214,8 @@ module _ (W : Volume) (C : Timetable (W .terms)) (Q : Keeping W) where
     }
 
     -- a decision, as the protocol has it
-    decided-of : (J : MajorityIn) (r : ℕ) (L : Log) → Keeps W r → (d : Decides (seat W r) (W .calls r) L) → protocol.Decides (hearing W C Q D N) (run J) r (C .agreement d) L
+    decided-of : (J : MajorityIn) (r : ℕ) (L : Log) → Keeps W r → (d : Decides (seat W r) (W .calls r) L)
+        → protocol.Decides (hearing W C Q D N) (run J) r (C .agreement d) L
     unfolding hearing run
     decided-of J r L kr d =
         let s = C .graded d in
@@ -227,5 +240,6 @@ module _ (W : Volume) (C : Timetable (W .terms)) (Q : Keeping W) where
         }
 
     -- No two decided logs conflict, at two rule-keepers or at one, in any views.
-    pub no-conflict-by : MajorityIn → (i j : ℕ) → Keeps W i → Keeps W j → (L M : Log) → Decides (seat W i) (W .calls i) L → Decides (seat W j) (W .calls j) M → Compatible L M
+    pub no-conflict-by : MajorityIn → (i j : ℕ) → Keeps W i → Keeps W j → (L M : Log) → Decides (seat W i) (W .calls i) L
+        → Decides (seat W j) (W .calls j) M → Compatible L M
     no-conflict-by J i j ki kj L M d e = safety (hearing W C Q D N) (run J) (decided-of J i L ki d) (decided-of J j M kj e)

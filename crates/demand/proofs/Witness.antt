@@ -1,12 +1,15 @@
--- The premises of demand 3 can be met while a rule-breaker lies, a bench sleeps and calls are refused, and logs are then decided: four benches, of
+-- The premises of demand 3 can be met while a rule-breaker lies, a bench sleeps and calls are refused, and logs are then decided: four
+-- benches, of
 -- which 0, 1 and 2 keep the rules.
 --   Number 3 tells two stories, both as LOGs of view 0: [7] to bench 0 first and [8] to bench 1 first, then to each the other.
 --   Bench 0 proposes block 5 with 3 entries at beat 0 and block 6 with none at beat 4.
 --   Benches 0 and 1 are awake at beats 0 to 10. All three vote for [5] at beat 1; 0 and 1 vote for [5,6] at beats 5 and 9.
---   Bench 2 is awake at beats 1, 2 and 6 only: it takes snapshot one of view 0 and sleeps over snapshot two. It begins beat 4, is handed [7] there,
+-- Bench 2 is awake at beats 1, 2 and 6 only: it takes snapshot one of view 0 and sleeps over snapshot two. It begins beat 4, is handed [7]
+-- there,
 --   and does not act in it.
 --   [5] is decided at beat 6 by all three, [5,6] at beat 10 by 0 and 1.
---   Refused: 20, a beat begun before; 21, a LOG too early and one too late; 1, bytes that are no message; 11, a short buffer; 22, a second Act and a
+-- Refused: 20, a beat begun before; 21, a LOG too early and one too late; 1, bytes that are no message; 11, a short buffer; 22, a second
+-- Act and a
 --   message before any Begin.
 -- Assumes nothing.
 use Prim.Native.Nat.{ℕ}
@@ -145,11 +148,17 @@ keep2 = (omega arith, refl)
 -- the logs decided
 pub decide0 : Decides (seatOf four 0) bench0 five × Decides (seatOf four 0) bench0 fiveSix
 unfolding computed bench0
-decide0 = (mem-decides (seatOf four 0) bench0 five (List·Memᴰ·tail (List·Memᴰ·head refl)), mem-decides (seatOf four 0) bench0 fiveSix (List·Memᴰ·head refl))
+decide0 = (
+  mem-decides (seatOf four 0) bench0 five (List·Memᴰ·tail (List·Memᴰ·head refl)),
+  mem-decides (seatOf four 0) bench0 fiveSix (List·Memᴰ·head refl),
+)
 
 pub decide1 : Decides (seatOf four 1) bench1 five × Decides (seatOf four 1) bench1 fiveSix
 unfolding computed bench1
-decide1 = (mem-decides (seatOf four 1) bench1 five (List·Memᴰ·tail (List·Memᴰ·head refl)), mem-decides (seatOf four 1) bench1 fiveSix (List·Memᴰ·head refl))
+decide1 = (
+  mem-decides (seatOf four 1) bench1 five (List·Memᴰ·tail (List·Memᴰ·head refl)),
+  mem-decides (seatOf four 1) bench1 fiveSix (List·Memᴰ·head refl),
+)
 
 pub decide2 : Decides (seatOf four 2) bench2 five
 unfolding computed bench2
@@ -159,7 +168,8 @@ decide2 = mem-decides (seatOf four 2) bench2 five (List·Memᴰ·head refl)
 abbrev pub unmarked : Log → Stand
 unmarked L = record { log = L; parted = false }
 
-pub stands : (stand (seatOf four 0) bench0 ≡ unmarked fiveSix) × (stand (seatOf four 1) bench1 ≡ unmarked fiveSix) × (stand (seatOf four 2) bench2 ≡ unmarked five)
+pub stands : (stand (seatOf four 0) bench0 ≡ unmarked fiveSix) × (stand (seatOf four 1) bench1 ≡ unmarked fiveSix) ×
+    (stand (seatOf four 2) bench2 ≡ unmarked five)
 unfolding computed bench0 bench1 bench2
 stands = (refl, refl, refl)
 
@@ -220,7 +230,8 @@ module _ (from : ℕ → State) (events : ℕ → List Event)
 
   stood : (i : ℕ) → Keeps volume i → standing (runs theBench (from i) (events i)) ≡ stand (seatOf four i) (volume .calls i)
   stood i k =
-      bench-demand3 .alone .stood four i (from i) (events i) (opened i k) (subst AllTyped (sym (went i k)) (typed i k)) ∙ ap (stand (seatOf four i)) (went i k)
+      bench-demand3 .alone .stood four i (from i) (events i) (opened i k) (subst AllTyped (sym (went i k)) (typed i k))
+      ∙ ap (stand (seatOf four i)) (went i k)
 
   -- what stands in their records and lists at the end is [5,6], [5,6] and [5], with no mark
   pub standing-logs :

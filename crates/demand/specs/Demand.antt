@@ -60,7 +60,8 @@ pub record OpenedAs (M : Machine) (T : Terms) (own : ℕ) (x : State) : Type 0 w
 -- Open refuses by 7 and 8, the first that fails, and under no other condition; else it gives a bench with an empty decided log and no mark.
 pub record OpensRightly (M : Machine) : Type 0 where
   pub refuses :
-      (T : Terms) (own : ℕ) (l : Lent) (k : ℕ) → TypedOpen (T .n) own l → openRefusal (seatOf T own) l ≡ some k → M .open′ T own l .reply ≡ refused k
+      (T : Terms) (own : ℕ) (l : Lent) (k : ℕ) → TypedOpen (T .n) own l → openRefusal (seatOf T own) l ≡ some k
+      → M .open′ T own l .reply ≡ refused k
   pub opens :
       (T : Terms) (own : ℕ) (l : Lent) → TypedOpen (T .n) own l → openRefusal (seatOf T own) l ≡ none
       → (M .open′ T own l .reply ≡ done) × (M .open′ T own l .bench .decided ≡ 0) × (isYes (M .open′ T own l .bench .parted) ≡ false)
@@ -69,13 +70,16 @@ pub record Faithful (M : Machine) : Type 0 where
   pub opens : OpensRightly M
   -- the answers, made messages and outgoing buffers are the ones worked out from the list of calls
   pub answered :
-      (T : Terms) (own : ℕ) (x : State) (es : List Event) → OpenedAs M T own x → AllTyped (callsIn es) → answers M x es ≡ answersTo (seatOf T own) (callsIn es)
+      (T : Terms) (own : ℕ) (x : State) (es : List Event) → OpenedAs M T own x → AllTyped (callsIn es)
+      → answers M x es ≡ answersTo (seatOf T own) (callsIn es)
   -- what stands in record and lists, and the mark, are what the decisions come to
   pub stood :
-      (T : Terms) (own : ℕ) (x : State) (es : List Event) → OpenedAs M T own x → AllTyped (callsIn es) → standing (runs M x es) ≡ stand (seatOf T own) (callsIn es)
+      (T : Terms) (own : ℕ) (x : State) (es : List Event) → OpenedAs M T own x → AllTyped (callsIn es)
+      → standing (runs M x es) ≡ stand (seatOf T own) (callsIn es)
   -- a refusal leaves record and lists (and the buffer, by `answered`)
   pub refusals :
-      (T : Terms) (own : ℕ) (x : State) (es : List Event) (w : Way) (c : Call) (k : ℕ) → OpenedAs M T own x → AllTyped (callsIn es) → Typed c
+      (T : Terms) (own : ℕ) (x : State) (es : List Event) (w : Way) (c : Call) (k : ℕ) → OpenedAs M T own x → AllTyped (callsIn es)
+      → Typed c
       → refusal (seatOf T own) (after (seatOf T own) (callsIn es)) c ≡ some k → call M w (runs M x es) c .held ≡ runs M x es
   -- Begin does not write the lists
   pub begins :
@@ -88,8 +92,10 @@ pub record Faithful (M : Machine) : Type 0 where
 pub record Claim (M : Machine) (W : Volume) (from : ℕ → State) (events : ℕ → List Event) : Type 0 where
   -- "no two logs decided in these lists conflict, at two such benches or at one, in any views"
   pub no-conflict :
-      (i j : ℕ) → Keeps W i → Keeps W j → (L K : Log) → Decides (seat W i) (W .calls i) L → Decides (seat W j) (W .calls j) K → Conflict L K → ⊥
-  -- "after its list, or any start of it, each bench's standing decided log is the longest it decided there, empty if none"; and no mark is set
+      (i j : ℕ) → Keeps W i → Keeps W j → (L K : Log) → Decides (seat W i) (W .calls i) L → Decides (seat W j) (W .calls j) K → Conflict L K
+      → ⊥
+  -- "after its list, or any start of it, each bench's standing decided log is the longest it decided there, empty if none"; and no mark is
+  -- set
   pub stands :
       (i : ℕ) → Keeps W i → (pre post : List Event) → events i ≡ pre ++ post
       → LongestDecided (seat W i) (callsIn pre) (standing (runs M (from i) pre) .log) × (standing (runs M (from i) pre) .parted ≡ false)

@@ -1,5 +1,5 @@
--- What a bench does at a place of its list of calls, by the rules and from its list alone (document 01, the words on demand 3 after the calendar).
--- Assumes nothing.
+-- What a bench does at a place of its list of calls, by the rules and from its list alone (document 01, the words on demand 3 after the
+-- calendar). Assumes nothing.
 use Prim.Native.Nat.{ℕ, _≤_}
 use mathlib.Core.Bool.{true}
 use mathlib.Core.List.{List, [], _∷_, _++_}

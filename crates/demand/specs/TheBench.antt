@@ -1,5 +1,5 @@
--- The machine that demand 3 is proved of: its calls are the definitions that the code's contracts cite. A call on a lent record does what the call
--- by value does. Assumes nothing.
+-- The machine that demand 3 is proved of: its calls are the definitions that the code's contracts cite. A call on a lent record does what
+-- the call by value does. Assumes nothing.
 use Rattle.bench.specs.ByRecord.{openOf, beginOf, receiveOf, actOf}
 use Rattle.demand.specs.Demand.{Machine}
 

@@ -10,7 +10,8 @@ use bench::Start;
 use bench::Taken;
 
 pub fn begin(bench: &mut Bench, names: &[u64], counts: &[u16], beat: u32) -> Start
-    ensures { λ r. ⌜ BeginGives (beginOf (stateOf (now (bench .entry)) (now (names .entry)) (now (counts .entry))) beat) r (benchOf (now (bench .exit))) (now (names .exit)) (now (counts .exit)) ⌝ }
+    ensures { λ r. ⌜ BeginGives (beginOf (stateOf (now (bench .entry)) (now (names .entry)) (now (counts .entry))) beat) r
+        (benchOf (now (bench .exit))) (now (names .exit)) (now (counts .exit)) ⌝ }
 {
     let given = calls::begin(*bench, names, counts, beat);
     *bench = given.bench;
@@ -18,7 +19,9 @@ pub fn begin(bench: &mut Bench, names: &[u64], counts: &[u16], beat: u32) -> Sta
 }
 
 pub fn receive(bench: &mut Bench, names: &mut [u64], counts: &mut [u16], message: &[u8]) -> Taken
-    ensures { λ r. ⌜ ReceiveGives (receiveOf (stateOf (now (bench .entry)) (now (names .entry)) (now (counts .entry))) (now (message .entry))) r (benchOf (now (bench .exit))) (now (names .exit)) (now (counts .exit)) ⌝ }
+    ensures { λ r. ⌜ ReceiveGives
+        (receiveOf (stateOf (now (bench .entry)) (now (names .entry)) (now (counts .entry))) (now (message .entry))) r
+        (benchOf (now (bench .exit))) (now (names .exit)) (now (counts .exit)) ⌝ }
 {
     let given = calls::receive(*bench, names, counts, message);
     *bench = given.bench;
@@ -34,7 +37,9 @@ pub fn act(
     count: u16,
     priority: u64,
 ) -> Made
-    ensures { λ r. ⌜ ActGives (actOf (stateOf (now (bench .entry)) (now (names .entry)) (now (counts .entry))) (record { name = name; count = count }) priority (now (out .entry))) r (benchOf (now (bench .exit))) (now (names .exit)) (now (counts .exit)) (now (out .exit)) ⌝ }
+    ensures { λ r. ⌜ ActGives
+        (actOf (stateOf (now (bench .entry)) (now (names .entry)) (now (counts .entry))) (record { name = name; count = count }) priority
+        (now (out .entry))) r (benchOf (now (bench .exit))) (now (names .exit)) (now (counts .exit)) (now (out .exit)) ⌝ }
 {
     let given = calls::act(*bench, names, counts, out, name, count, priority);
     *bench = given.bench;

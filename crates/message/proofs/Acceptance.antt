@@ -12,7 +12,9 @@ use borrow.Author.Tests.{ltb-false, leb-false, eqb-true, le-ltb, lt-leb, eq-eqb,
 use Rattle.message.specs.Limits.{mostBlocks, lastView, headLength, nameWidth, blockWidth}
 use Rattle.message.specs.Causes.{firstFailure}
 use Rattle.message.specs.Logs.{namesOf, countsOf}
-use Rattle.message.specs.Message.{said, Meaning, logMessage, proposalMessage, logKind, proposalKind, countIn, senderIn, kindIn, byteThree, viewIn, priorityIn, namesIn, countsIn, blocksIn, contentIn, meaningIn, missized, malformed, zeroNamed, readCauses, Parsed, refused, means, readOf}
+use Rattle.message.specs.Message.{said, Meaning, logMessage, proposalMessage, logKind, proposalKind, countIn, senderIn, kindIn}
+use Rattle.message.specs.Message.{byteThree, viewIn, priorityIn, namesIn, countsIn, blocksIn, contentIn, meaningIn, missized}
+use Rattle.message.specs.Message.{malformed, zeroNamed, readCauses, Parsed, refused, means, readOf}
 use Rattle.message.proofs.LogLaws.{names-in-step, counts-in-step, length-in-step}
 use Rattle.message.proofs.NumberLaws.{length-numbers}
 use Rattle.message.proofs.TestLaws.{either, or-false}
@@ -87,8 +89,17 @@ malformed-not s (inr k) z = rw (k, z)
 pub of-form : (n : ℕ) (s : List ℕ) → Form n s → Passes (readCauses n s)
 of-form n s f =
     let l : headLength ≤ length s = let e = f .sized in omega arith in
-    let sized : missized s ≡ false = rw (le-ltb mostBlocks (countIn s) (f .few), eq-eqb (length s) (headLength + blockWidth * countIn s) (f .sized)) in
-    (le-ltb (length s) headLength l, (sized, (malformed-not s (f .kind) (f .three), (lt-leb n (senderIn s) (f .sender), (le-ltb lastView (viewIn s) (f .view), (f .named, tt))))))
+    let sized : missized s ≡ false =
+    rw (le-ltb mostBlocks (countIn s) (f .few), eq-eqb (length s) (headLength + blockWidth * countIn s) (f .sized)) in (
+      le-ltb (length s) headLength l,
+      (
+        sized,
+        (
+          malformed-not s (f .kind) (f .three),
+          (lt-leb n (senderIn s) (f .sender), (le-ltb lastView (viewIn s) (f .view), (f .named, tt))),
+        ),
+      ),
+    )
 
 -- ---- the parts of the log in the bytes
 

@@ -76,7 +76,8 @@ module _ (ys : List Cause) (k : ℕ) (t : Bool) where
   row-given [] p e = rw e
   row-given (c ∷ xs) p e = rw (p .0) (row-given xs (p .1) e)
 
-  pub row-only : (xs : List Cause) → listed k xs ≡ false → listed k ys ≡ false → firstFailure (xs ++ (by k t ∷ ys)) ≡ some k → Passes xs × (t ≡ true)
+  pub row-only : (xs : List Cause) → listed k xs ≡ false → listed k ys ≡ false → firstFailure (xs ++ (by k t ∷ ys)) ≡ some k
+      → Passes xs × (t ≡ true)
   row-only xs n m e = go xs n (fails-by (xs ++ (by k t ∷ ys)) k e)
     where
       go : (xs : List Cause) → listed k xs ≡ false → FailsBy (xs ++ (by k t ∷ ys)) k → Passes xs × (t ≡ true)
@@ -97,7 +98,8 @@ module _ {A : Type 0} (refuse : ℕ → A) (x : A) where
   judged-done cs e = rw e
 
   -- what holds of each refusal, and of what is done
-  pub judged : (P : A → Type 0) (cs : List Cause) → ((k : ℕ) → firstFailure cs ≡ some k → P (refuse k)) → (firstFailure cs ≡ none → P x) → P (judgedBy cs refuse x)
+  pub judged : (P : A → Type 0) (cs : List Cause) → ((k : ℕ) → firstFailure cs ≡ some k → P (refuse k)) → (firstFailure cs ≡ none → P x)
+      → P (judgedBy cs refuse x)
   unfolding judgedBy
   judged P cs f g = go (firstFailure cs) refl
     where

@@ -1,4 +1,4 @@
--- Parsed undoes writing and writing undoes reading: one meaning, "one writing" (document 01, "The message"). Assumes nothing.
+-- Reading undoes writing and writing undoes reading: one meaning, "one writing" (document 01, "The message"). Assumes nothing.
 use Prim.Native.Nat.{ℕ, zero, suc, _+_, _*_, _^_, _≤_, _<_}
 use native.Mathlib.Omega.{arith}
 use mathlib.Core.Path.{_≡_, refl, sym, ap, subst, _∙_}
@@ -8,11 +8,15 @@ use lib.ListN.{length}
 use Rattle.message.specs.Limits.{lastView, headLength, nameWidth, countWidth, blockWidth}
 use Rattle.message.specs.Numbers.{AllBelow, part, bytesFor, bytesForEach}
 use Rattle.message.specs.Logs.{namesOf, countsOf}
-use Rattle.message.specs.Message.{Content, anyZero, Writable, WritableMeaning, Meaning, logMessage, proposalMessage, logKind, proposalKind, messageBytes, bytesOf, countIn, senderIn, kindIn, byteThree, priorityIn, logIn, contentIn, meaningIn, means, readOf}
+use Rattle.message.specs.Message.{Content, anyZero, Writable, WritableMeaning, Meaning, logMessage, proposalMessage, logKind}
+use Rattle.message.specs.Message.{proposalKind, messageBytes, bytesOf, countIn, senderIn, kindIn, byteThree, priorityIn, logIn}
+use Rattle.message.specs.Message.{contentIn, meaningIn, means, readOf}
 use Rattle.message.proofs.PartLaws.{part-append, part-all, append-below}
 use Rattle.message.proofs.NumberLaws.{bytes-number, bytes-numbers, bytes-below, bytes-each-below, number-below, numbers-below}
-use Rattle.message.proofs.WrittenFields.{length-written, count-written, sender-written, kind-written, three-written, view-written, priority-written, log-written}
-use Rattle.message.proofs.Acceptance.{accepted, accepts, KindFits, Form, form, of-form, names-in, counts-in, length-blocks, meaning-log, meaning-proposal}
+use Rattle.message.proofs.WrittenFields.{length-written, count-written, sender-written, kind-written, three-written, view-written}
+use Rattle.message.proofs.WrittenFields.{priority-written, log-written}
+use Rattle.message.proofs.Acceptance.{accepted, accepts, KindFits, Form, form, of-form, names-in, counts-in, length-blocks}
+use Rattle.message.proofs.Acceptance.{meaning-log, meaning-proposal}
 
 -- ---- what is written is read back
 
@@ -67,8 +71,10 @@ rewritten s b e z =
     let l = length-blocks s k in
     let v = bytes-number 4 s 4 b in
     let p = bytes-number 8 s 8 b in
-    let ns : bytesForEach nameWidth (namesOf (logIn s)) ≡ part s 16 (8 * k) = ap (bytesForEach nameWidth) (names-in s k) ∙ bytes-numbers 8 s 16 k b in
-    let cs : bytesForEach countWidth (countsOf (logIn s)) ≡ part s (headLength + nameWidth * k) (2 * k) = ap (bytesForEach countWidth) (counts-in s k) ∙ bytes-numbers 2 s (headLength + nameWidth * k) k b in
+    let ns : bytesForEach nameWidth (namesOf (logIn s)) ≡ part s 16 (8 * k) =
+    ap (bytesForEach nameWidth) (names-in s k) ∙ bytes-numbers 8 s 16 k b in
+    let cs : bytesForEach countWidth (countsOf (logIn s)) ≡ part s (headLength + nameWidth * k) (2 * k) =
+    ap (bytesForEach countWidth) (counts-in s k) ∙ bytes-numbers 2 s (headLength + nameWidth * k) k b in
     let t₁ = part-append s 16 (8 * k) (2 * k) in
     let t₂ = part-append s 8 8 (8 * k + 2 * k) in
     let t₃ = part-append s 4 4 (8 + (8 * k + 2 * k)) in
@@ -97,7 +103,8 @@ written-read n s m b e =
     ap bytesOf (sym (a .1)) ∙ bytes-meaning s (f .kind) ∙ rewritten s b (f .sized) (f .three)
 
 -- Two accepted messages of one meaning are the same bytes.
-pub one-writing : (n : ℕ) (s t : List ℕ) (m : Meaning) → AllBelow 256 s → AllBelow 256 t → readOf n s ≡ means m → readOf n t ≡ means m → s ≡ t
+pub one-writing : (n : ℕ) (s t : List ℕ) (m : Meaning) → AllBelow 256 s → AllBelow 256 t → readOf n s ≡ means m → readOf n t ≡ means m
+    → s ≡ t
 one-writing n s t m b d e f = sym (written-read n s m b e) ∙ written-read n t m d f
 
 -- ---- what is read may be written
@@ -127,7 +134,8 @@ read-writable n s m b e =
 
 -- ---- what may be written is bytes
 
-written-below : (n : ℕ) (m : Content) (kind priority : ℕ) → n ≤ 256 → kind < 256 → Writable n m → AllBelow 256 (messageBytes m kind priority)
+written-below : (n : ℕ) (m : Content) (kind priority : ℕ) → n ≤ 256 → kind < 256 → Writable n m
+    → AllBelow 256 (messageBytes m kind priority)
 unfolding messageBytes
 written-below n m kind priority h k w zero = let l = w .short in omega arith
 written-below n m kind priority h k w (suc zero) = let l = w .sender in omega arith

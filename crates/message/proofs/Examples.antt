@@ -64,7 +64,8 @@ rows =
     ∷ row 4 (from 0 3 2 0 64 0) (means (proposalMessage (content 3 1000000 []) 0))
     ∷ row 4 (from 64 3 1 0 64 0 ++ replicate 640 1) (means (logMessage (content 3 1000000 (replicate 64 (block 72340172838076673 257)))))
     ∷ row 4 (from 1 3 1 0 64 0 ++ (name 7 ++ count 0)) (means (logMessage (content 3 1000000 (block 7 0 ∷ []))))
-    ∷ row 4 (from 2 3 2 0 64 9 ++ (name 7 ++ (name 7 ++ (count 1 ++ count 2)))) (means (proposalMessage (content 3 1000000 (block 7 1 ∷ block 7 2 ∷ [])) 9))
+    ∷ row 4 (from 2 3 2 0 64 9 ++ (name 7 ++ (name 7 ++ (count 1 ++ count 2))))
+    (means (proposalMessage (content 3 1000000 (block 7 1 ∷ block 7 2 ∷ [])) 9))
     -- the lowest byte first
     ∷ row 4 (1 ∷ 3 ∷ 2 ∷ 0 ∷ 1 ∷ 2 ∷ 3 ∷ 0 ∷ 1 ∷ 2 ∷ 3 ∷ 4 ∷ 5 ∷ 6 ∷ 7 ∷ 8 ∷ 9 ∷ 10 ∷ 11 ∷ 12 ∷ 13 ∷ 14 ∷ 15 ∷ 16 ∷ 17 ∷ 18 ∷ [])
     (means (proposalMessage (content 3 197121 (block 1157159078456920585 4625 ∷ [])) 578437695752307201))

@@ -10,12 +10,14 @@ use lib.ListN.{length, drop}
 use Rattle.message.specs.Limits.{mostBlocks, headLength, blockWidth}
 use Rattle.message.specs.Numbers.{AllBelow, put}
 use Rattle.message.specs.Logs.{Log, isPrefix, sameLog, namesOf, countsOf}
-use Rattle.message.specs.Message.{Content, Meaning, logMessage, proposalMessage, said, means, readOf, logOf, logKind, proposalKind, messageBytes, bytesOf, countIn, priorityIn, logIn, contentIn}
+use Rattle.message.specs.Message.{Content, Meaning, logMessage, proposalMessage, said, means, readOf, logOf, logKind, proposalKind}
+use Rattle.message.specs.Message.{messageBytes, bytesOf, countIn, priorityIn, logIn, contentIn}
 use Rattle.message.specs.Store.{logAt, within, holdsLog, prefixAt, matchesAt, Stores, storeOf, roomFor, Writes, writeOf}
 use Rattle.message.proofs.TestLaws.{either}
 use Rattle.message.proofs.PartLaws.{put-front, length-put}
 use Rattle.message.proofs.Acceptance.{accepted, form}
-use Rattle.message.proofs.WrittenFields.{sender-front, view-front, priority-front, log-front, length-message, count-message, log-message}
+use Rattle.message.proofs.WrittenFields.{sender-front, view-front, priority-front, log-front, length-message, count-message}
+use Rattle.message.proofs.WrittenFields.{log-message}
 
 -- ---- the tests
 
@@ -43,13 +45,15 @@ holds-accepted n s m e =
 
 -- ---- storing and writing, where the test holds: answered true, and the lists hold the log, the buffer starts with the message
 
-pub stored-inside : (ok : Bool) (names counts : List ℕ) (a : ℕ) (L : Log) (r : Bool) (ns cs : List ℕ) → ok ≡ true → Stores (storeOf ok names counts a L) r ns cs
+pub stored-inside : (ok : Bool) (names counts : List ℕ) (a : ℕ) (L : Log) (r : Bool) (ns cs : List ℕ) → ok ≡ true
+    → Stores (storeOf ok names counts a L) r ns cs
     → (r ≡ true) × ((ns ≡ put names a (namesOf L)) × (cs ≡ put counts a (countsOf L)))
 unfolding storeOf
 stored-inside ok names counts a L r ns cs e t =
     let u : Stores (storeOf true names counts a L) r ns cs = rw e at t in (u .answered, (u .nameList, u .countList))
 
-pub room-yes : (out names counts : List ℕ) (a k m : ℕ) → m ≤ mostBlocks → within names counts a k ≡ true → headLength + blockWidth * m ≤ length out
+pub room-yes : (out names counts : List ℕ) (a k m : ℕ) → m ≤ mostBlocks → within names counts a k ≡ true
+    → headLength + blockWidth * m ≤ length out
     → roomFor out names counts a k m ≡ true
 unfolding roomFor
 room-yes out names counts a k m h w g = rw (le-leb m mostBlocks h, w, le-leb (headLength + blockWidth * m) (length out) g)
@@ -97,12 +101,14 @@ module _ (out : List ℕ) (m : Meaning) (room : length (bytesOf m) ≤ length ou
         le-leb (headLength + blockWidth * countIn (bytesOf m)) (length (bytesOf m)) (omega arith),
       ))
 
-  pub same-log : AllBelow (2 ^ 64) (namesOf (logOf m)) → AllBelow (2 ^ 16) (countsOf (logOf m)) → logIn (put out 0 (bytesOf m)) ≡ logIn (bytesOf m)
+  pub same-log : AllBelow (2 ^ 64) (namesOf (logOf m)) → AllBelow (2 ^ 16) (countsOf (logOf m))
+      → logIn (put out 0 (bytesOf m)) ≡ logIn (bytesOf m)
   same-log n c = log-made out m room n c ∙ sym (ap logIn (sym (append-nil (bytesOf m))) ∙ log-message m [] n c)
 
 -- ---- and its whole content is read back from there, and a PROPOSAL's priority
 
-content-front : (m : Content) (kind priority : ℕ) (r : List ℕ) → m .view < 256 ^ 4 → AllBelow (2 ^ 64) (namesOf (m .log)) → AllBelow (2 ^ 16) (countsOf (m .log))
+content-front : (m : Content) (kind priority : ℕ) (r : List ℕ) → m .view < 256 ^ 4 → AllBelow (2 ^ 64) (namesOf (m .log))
+    → AllBelow (2 ^ 16) (countsOf (m .log))
     → contentIn (messageBytes m kind priority ++ r) ≡ m
 content-front m kind priority r h n c =
     let s = sender-front m kind priority r in
@@ -110,18 +116,22 @@ content-front m kind priority r h n c =
     let l = log-front m kind priority r n c in
     λ i. record { sender = s i; view = v i; log = l i }
 
-content-message : (m : Meaning) (r : List ℕ) → said m .view < 256 ^ 4 → AllBelow (2 ^ 64) (namesOf (logOf m)) → AllBelow (2 ^ 16) (countsOf (logOf m))
+content-message : (m : Meaning) (r : List ℕ) → said m .view < 256 ^ 4 → AllBelow (2 ^ 64) (namesOf (logOf m))
+    → AllBelow (2 ^ 16) (countsOf (logOf m))
     → contentIn (bytesOf m ++ r) ≡ said m
 unfolding bytesOf
 content-message (logMessage m) r = content-front m logKind 0 r
 content-message (proposalMessage m priority) r = content-front m proposalKind priority r
 
 pub content-made : (out : List ℕ) (m : Meaning) → length (bytesOf m) ≤ length out
-    → said m .view < 256 ^ 4 → AllBelow (2 ^ 64) (namesOf (logOf m)) → AllBelow (2 ^ 16) (countsOf (logOf m)) → contentIn (put out 0 (bytesOf m)) ≡ said m
+    → said m .view < 256 ^ 4 → AllBelow (2 ^ 64) (namesOf (logOf m)) → AllBelow (2 ^ 16) (countsOf (logOf m))
+    → contentIn (put out 0 (bytesOf m)) ≡ said m
 content-made out m room h n c = ap contentIn (put-front out (bytesOf m) room) ∙ content-message m (drop (length (bytesOf m)) out) h n c
 
-pub priority-made : (out : List ℕ) (m : Content) (priority : ℕ) → length (bytesOf (proposalMessage m priority)) ≤ length out → priority < 256 ^ 8
+pub priority-made : (out : List ℕ) (m : Content) (priority : ℕ) → length (bytesOf (proposalMessage m priority)) ≤ length out
+    → priority < 256 ^ 8
     → priorityIn (put out 0 (bytesOf (proposalMessage m priority))) ≡ priority
 unfolding bytesOf
 priority-made out m priority room h =
-    let s = messageBytes m proposalKind priority in ap priorityIn (put-front out s room) ∙ priority-front m proposalKind priority (drop (length s) out) h
+    let s = messageBytes m proposalKind priority in
+    ap priorityIn (put-front out s room) ∙ priority-front m proposalKind priority (drop (length s) out) h

@@ -12,7 +12,8 @@ use Rattle.message.specs.Numbers.{part, put}
 use Rattle.message.specs.Logs.{Log, Prefix, empty, more, sameBlock, isPrefix, inStep, namesOf, countsOf}
 use Rattle.message.specs.Store.{blockAt, logAt, within}
 use Rattle.message.proofs.TestLaws.{either}
-use Rattle.message.proofs.LogLaws.{prefix-length, prefix-same, length-names, length-counts, log-in-step, names-in-step, counts-in-step, length-in-step}
+use Rattle.message.proofs.LogLaws.{prefix-length, prefix-same, length-names, length-counts, log-in-step, names-in-step}
+use Rattle.message.proofs.LogLaws.{counts-in-step, length-in-step}
 use Rattle.message.proofs.PartLaws.{length-part, part-put, part-put-below, part-put-above}
 
 same-lengths : (names counts : List ℕ) (a k : ℕ) → length (part names a k) ≡ length (part counts a k)
@@ -32,7 +33,8 @@ counts-at names counts a k = counts-in-step (part names a k) (part counts a k) (
 
 -- ---- a log's first block
 
-pub log-step : (names counts : List ℕ) (a k : ℕ) → 0 < k → logAt names counts a k ≡ blockAt names counts a ∷ logAt names counts (a + 1) (k - 1)
+pub log-step : (names counts : List ℕ) (a k : ℕ) → 0 < k
+    → logAt names counts a k ≡ blockAt names counts a ∷ logAt names counts (a + 1) (k - 1)
 unfolding logAt part inStep
 log-step names counts a k h = let e : k ≡ suc (k - 1) = omega arith in ap (logAt names counts a) e
 
@@ -106,7 +108,12 @@ pub within-of : (names counts : List ℕ) (a k : ℕ) → within names counts a 
 within-of names counts a k e =
     let p = and-eq-true-iff (leb k mostBlocks) (leb (a + k) (length names) && leb (a + k) (length counts)) .0 e in
     let q = and-eq-true-iff (leb (a + k) (length names)) (leb (a + k) (length counts)) .0 (p .1) in
-    record { few = leb-true k mostBlocks (p .0); inNames = leb-true (a + k) (length names) (q .0); inCounts = leb-true (a + k) (length counts) (q .1) }
+    record {
+      few = leb-true k mostBlocks (p .0);
+      inNames = leb-true (a + k) (length names) (q .0);
+      inCounts =
+          leb-true (a + k) (length counts) (q .1);
+    }
 
 pub of-within : {names counts : List ℕ} {a k : ℕ} → Within names counts a k → within names counts a k ≡ true
 of-within {names} {counts} {a} {k} w =
@@ -126,12 +133,14 @@ log-stored names counts a L h g =
     (λ i. inStep (p i) (q i)) ∙ log-in-step L
 
 -- logs before and past it are as they were
-pub log-before : (names counts : List ℕ) (a : ℕ) (L : Log) (b k : ℕ) → b + k ≤ a → logAt (put names a (namesOf L)) (put counts a (countsOf L)) b k ≡ logAt names counts b k
+pub log-before : (names counts : List ℕ) (a : ℕ) (L : Log) (b k : ℕ) → b + k ≤ a
+    → logAt (put names a (namesOf L)) (put counts a (countsOf L)) b k ≡ logAt names counts b k
 unfolding logAt
 log-before names counts a L b k h =
     let p = part-put-below names a (namesOf L) b k h in let q = part-put-below counts a (countsOf L) b k h in λ i. inStep (p i) (q i)
 
-pub log-past : (names counts : List ℕ) (a : ℕ) (L : Log) (b k : ℕ) → a + length L ≤ b → logAt (put names a (namesOf L)) (put counts a (countsOf L)) b k ≡ logAt names counts b k
+pub log-past : (names counts : List ℕ) (a : ℕ) (L : Log) (b k : ℕ) → a + length L ≤ b
+    → logAt (put names a (namesOf L)) (put counts a (countsOf L)) b k ≡ logAt names counts b k
 unfolding logAt
 log-past names counts a L b k h =
     let n = length-names L in

@@ -1,4 +1,5 @@
--- Laws of prefix and conflict: the order, what two logs that do not conflict are to each other, and the tests tied to the relations. Assumes nothing.
+-- Laws of prefix and conflict: the order, what two logs that do not conflict are to each other, and the tests tied to the relations.
+-- Assumes nothing.
 use Prim.Native.Nat.{ℕ, suc, _≤_}
 use native.Mathlib.Nat.{le-of-suc-le-suc}
 use native.Mathlib.Omega.{arith}
@@ -10,7 +11,8 @@ use lib.ListN.{length}
 use lib.Dec.{leb}
 use borrow.Author.Tests.{eqb-true, eq-eqb, leb-true, leb-false, le-leb, lt-leb}
 use Rattle.message.specs.Choice.{pick}
-use Rattle.message.specs.Logs.{Block, Log, Prefix, empty, more, Conflict, Compatible, sameBlock, isPrefix, sameLog, sharedLength, inStep, namesOf, countsOf}
+use Rattle.message.specs.Logs.{Block, Log, Prefix, empty, more, Conflict, Compatible, sameBlock, isPrefix, sameLog, sharedLength}
+use Rattle.message.specs.Logs.{inStep, namesOf, countsOf}
 use Rattle.message.proofs.TestLaws.{either}
 
 -- ---- the order
@@ -140,7 +142,8 @@ shared-most (p ∷ P) (q ∷ Q) = go (sameBlock p q) (shared-most P Q)
 
 leb-suc : (m n : ℕ) → leb m n ≡ leb (suc m) (suc n)
 leb-suc m n =
-    either (leb m n) (λ t. t ∙ sym (le-leb (suc m) (suc n) (omega (arith, leb-true m n t)))) (λ t. t ∙ sym (lt-leb (suc m) (suc n) (omega (arith, leb-false m n t))))
+    either (leb m n) (λ t. t ∙ sym (le-leb (suc m) (suc n) (omega (arith, leb-true m n t))))
+    (λ t. t ∙ sym (lt-leb (suc m) (suc n) (omega (arith, leb-false m n t))))
 
 -- of the prefixes of P, those of Q are the ones no longer than the shared length
 pub shared-covers : {M P : Log} → Prefix M P → (Q : Log) → isPrefix M Q ≡ leb (length M) (sharedLength P Q)
@@ -149,7 +152,8 @@ shared-covers {P = P} empty Q = sym (le-leb 0 (sharedLength P Q) (omega arith))
 shared-covers (more {P = M} h) [] = sym (lt-leb (suc (length M)) 0 (omega arith))
 shared-covers (more {b = b} {P = M} {Q = P} h) (q ∷ Q) = go (sameBlock b q) (shared-covers h Q)
   where
-    go : (t : Bool) → isPrefix M Q ≡ leb (length M) (sharedLength P Q) → (t && isPrefix M Q) ≡ leb (suc (length M)) (pick t (suc (sharedLength P Q)) 0)
+    go : (t : Bool) → isPrefix M Q ≡ leb (length M) (sharedLength P Q)
+        → (t && isPrefix M Q) ≡ leb (suc (length M)) (pick t (suc (sharedLength P Q)) 0)
     go true e = e ∙ leb-suc (length M) (sharedLength P Q)
     go false e = sym (lt-leb (suc (length M)) 0 (omega arith))
 

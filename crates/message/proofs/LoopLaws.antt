@@ -1,5 +1,5 @@
--- The laws that the proofs of functions over numbers cite: two, four and eight bytes, a range, and a turn and the end of each loop that reads,
--- writes or copies numbers. Assumes nothing.
+-- The laws that the proofs of functions over numbers cite: two, four and eight bytes, a range, and a turn and the end of each loop that
+-- reads, writes or copies numbers. Assumes nothing.
 use Prim.Native.Nat.{ℕ, suc, _+_, _-_, _*_, _/_, _%_, _≤_, _<_}
 use native.Mathlib.Omega.{arith}
 use mathlib.Core.Path.{_≡_, refl, sym, ap, _∙_}
@@ -59,7 +59,8 @@ range-is a k len h = go (leb a (len - k)) refl
 
 -- ---- writing a number
 
-pub put-byte : (l : List ℕ) (p left x : ℕ) → 0 < left → put l p (bytesFor left x) ≡ put (set l p (x % 256)) (p + 1) (bytesFor (left - 1) (x / 256))
+pub put-byte : (l : List ℕ) (p left x : ℕ) → 0 < left
+    → put l p (bytesFor left x) ≡ put (set l p (x % 256)) (p + 1) (bytesFor (left - 1) (x / 256))
 unfolding put bytesFor
 put-byte l p left x h = let e : left ≡ suc (left - 1) = omega arith in ap (λ (k : ℕ). put l p (bytesFor k x)) e
 
@@ -109,7 +110,8 @@ put-number-step w l ns p a k h =
     let e : k ≡ suc (k - 1) = omega arith in
     ap (λ (j : ℕ). put l p (bytesForEach w (part ns a j))) e
     ∙ put-append l p (bytesFor w (getD ns a 0)) (bytesForEach w (part ns (a + 1) (k - 1)))
-    ∙ ap (λ (j : ℕ). put (put l p (bytesFor w (getD ns a 0))) (p + j) (bytesForEach w (part ns (a + 1) (k - 1)))) (length-bytes w (getD ns a 0))
+    ∙ ap (λ (j : ℕ). put (put l p (bytesFor w (getD ns a 0))) (p + j) (bytesForEach w (part ns (a + 1) (k - 1))))
+    (length-bytes w (getD ns a 0))
 
 pub record Putting (w : ℕ) (ns l₀ z l : List ℕ) (p a k : ℕ) : Type 0 where
   pub fits : Fits w l ns p a k
@@ -233,7 +235,8 @@ and-last true = refl
 and-last false = refl
 
 alike-step : (w : ℕ) (s ns : List ℕ) (p a k : ℕ) → 0 < k
-    → alike (numbersAt w s p k) (part ns a k) ≡ (eqb (numberAt w s p) (getD ns a 0) && alike (numbersAt w s (p + w) (k - 1)) (part ns (a + 1) (k - 1)))
+    → alike (numbersAt w s p k)
+    (part ns a k) ≡ (eqb (numberAt w s p) (getD ns a 0) && alike (numbersAt w s (p + w) (k - 1)) (part ns (a + 1) (k - 1)))
 unfolding alike numbersAt part
 alike-step w s ns p a k h = let e : k ≡ suc (k - 1) = omega arith in ap (λ (j : ℕ). alike (numbersAt w s p j) (part ns a j)) e
 
@@ -265,4 +268,5 @@ module _ {w : ℕ} {z : Bool} {s ns : List ℕ} {d p a k : ℕ} (f : Gathering w
 
   pub gather-end : k ≤ 0 → eqb d 0 ≡ z
   unfolding alike numbersAt part
-  gather-end h = let g : k ≡ 0 = omega arith in and-last (eqb d 0) ∙ sym (f .rest ∙ ap (λ (j : ℕ). eqb d 0 && alike (numbersAt w s p j) (part ns a j)) g)
+  gather-end h = let g : k ≡ 0 = omega arith in
+      and-last (eqb d 0) ∙ sym (f .rest ∙ ap (λ (j : ℕ). eqb d 0 && alike (numbersAt w s p j) (part ns a j)) g)

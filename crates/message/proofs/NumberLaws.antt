@@ -34,7 +34,8 @@ pub bytes-each-append : (w : ℕ) (xs ys : List ℕ) → bytesForEach w (xs ++ y
 unfolding bytesForEach
 bytes-each-append w [] ys = refl
 bytes-each-append w (x ∷ xs) ys =
-    ap (λ (l : List ℕ). bytesFor w x ++ l) (bytes-each-append w xs ys) ∙ sym (append-assoc (bytesFor w x) (bytesForEach w xs) (bytesForEach w ys))
+    ap (λ (l : List ℕ). bytesFor w x ++ l) (bytes-each-append w xs ys)
+    ∙ sym (append-assoc (bytesFor w x) (bytesForEach w xs) (bytesForEach w ys))
 
 pub length-numbers : (w : ℕ) (s : List ℕ) (a k : ℕ) → length (numbersAt w s a k) ≡ k
 unfolding numbersAt
@@ -61,7 +62,8 @@ number-bytes (suc w) x r h =
     let d : x / 256 < 256 ^ w = div-lt-iff-lt-mul (zero-lt-suc 255) .1 (rw (pow-suc 256 w) at h) in
     let l = x % 256 ∷ (bytesFor w (x / 256) ++ r) in
     let e = number-bytes w (x / 256) r d in
-    let f : numberAt w l (0 + 1) ≡ numberAt w (bytesFor w (x / 256) ++ r) 0 = number-part w l (bytesFor w (x / 256) ++ r) (0 + 1) 0 (part-drop l 1 0 w) in
+    let f : numberAt w l (0 + 1) ≡ numberAt w (bytesFor w (x / 256) ++ r) 0 =
+    number-part w l (bytesFor w (x / 256) ++ r) (0 + 1) 0 (part-drop l 1 0 w) in
     rw (f, e) (omega arith)
 
 numbers-part : (w : ℕ) (l m : List ℕ) (a b k : ℕ) → part l a (w * k) ≡ part m b (w * k) → numbersAt w l a k ≡ numbersAt w m b k
@@ -105,7 +107,8 @@ number-after w x s r a e h =
     let z : a ≡ a + 0 = omega arith in
     ap (numberAt w s) z ∙ number-drop w s a 0 ∙ ap (λ (l : List ℕ). numberAt w l 0) e ∙ number-bytes w x r h
 
-pub numbers-after : (w : ℕ) (xs s r : List ℕ) (a : ℕ) → drop a s ≡ bytesForEach w xs ++ r → AllBelow (256 ^ w) xs → numbersAt w s a (length xs) ≡ xs
+pub numbers-after : (w : ℕ) (xs s r : List ℕ) (a : ℕ) → drop a s ≡ bytesForEach w xs ++ r → AllBelow (256 ^ w) xs
+    → numbersAt w s a (length xs) ≡ xs
 numbers-after w xs s r a e h =
     let z : a ≡ a + 0 = omega arith in
     ap (λ (b : ℕ). numbersAt w s b (length xs)) z

@@ -15,7 +15,8 @@ content-head : (s : List ℕ) (h j : Head) → contentOf s h ≡ contentOf s j �
 content-head s h j e =
     let v = ap (λ (x : Content). x .view) e in
     let w = ap (λ (x : Content). x .sender) e in
-    let b : h .blocks ≡ j .blocks = sym (length-blocks s (h .blocks)) ∙ ap (λ (x : Content). length (x .log)) e ∙ length-blocks s (j .blocks) in
+    let b : h .blocks ≡ j .blocks =
+    sym (length-blocks s (h .blocks)) ∙ ap (λ (x : Content). length (x .log)) e ∙ length-blocks s (j .blocks) in
     λ i. record { view = v i; sender = w i; blocks = b i }
 
 -- no two answers say the same of the bytes
@@ -37,15 +38,18 @@ parsedOf-injective s (answers.Proposal h p) (answers.Log j) e = let z : _≡_ {A
 
 -- ---- what a case of the answer says
 
-pub read-as-log : (n : ℕ) (s : List ℕ) (r : Message) (h : Head) → parsedOf s r ≡ readOf n s → r ≡ answers.Log h → readOf n s ≡ means (logMessage (contentOf s h))
+pub read-as-log : (n : ℕ) (s : List ℕ) (r : Message) (h : Head) → parsedOf s r ≡ readOf n s → r ≡ answers.Log h
+    → readOf n s ≡ means (logMessage (contentOf s h))
 unfolding parsedOf
 read-as-log n s r h e c = sym e ∙ ap (parsedOf s) c
 
-pub read-as-proposal : (n : ℕ) (s : List ℕ) (r : Message) (h : Head) (priority : ℕ) → parsedOf s r ≡ readOf n s → r ≡ answers.Proposal h priority
+pub read-as-proposal : (n : ℕ) (s : List ℕ) (r : Message) (h : Head) (priority : ℕ) → parsedOf s r ≡ readOf n s
+    → r ≡ answers.Proposal h priority
     → readOf n s ≡ means (proposalMessage (contentOf s h) priority)
 unfolding parsedOf
 read-as-proposal n s r h priority e c = sym e ∙ ap (parsedOf s) c
 
-pub read-as-refused : (n : ℕ) (s : List ℕ) (r : Message) (number : ℕ) → parsedOf s r ≡ readOf n s → r ≡ answers.Refused number → readOf n s ≡ refused number
+pub read-as-refused : (n : ℕ) (s : List ℕ) (r : Message) (number : ℕ) → parsedOf s r ≡ readOf n s → r ≡ answers.Refused number
+    → readOf n s ≡ refused number
 unfolding parsedOf
 read-as-refused n s r number e c = sym e ∙ ap (parsedOf s) c

@@ -49,14 +49,16 @@ part-append l a (suc j) k =
 pub part-all : (l : List ℕ) → part l 0 (length l) ≡ l
 part-all l =
     let e = length-part l 0 (length l) in
-    ext-getD 0 (part l 0 (length l)) l e (λ i h. let z : 0 + i ≡ i = omega arith in getD-part l 0 (length l) i (omega arith) ∙ ap (λ (j : ℕ). getD l j 0) z)
+    ext-getD 0 (part l 0 (length l)) l e
+    (λ i h. let z : 0 + i ≡ i = omega arith in getD-part l 0 (length l) i (omega arith) ∙ ap (λ (j : ℕ). getD l j 0) z)
 
 -- lists that hold the same there have the same part
 pub part-ext : (l m : List ℕ) (a b k : ℕ) → ((i : ℕ) → i < k → getD l (a + i) 0 ≡ getD m (b + i) 0) → part l a k ≡ part m b k
 part-ext l m a b k f =
     let e = length-part l a k in
     let g = length-part m b k in
-    ext-getD 0 (part l a k) (part m b k) (omega arith) (λ i h. getD-part l a k i (omega arith) ∙ f i (omega arith) ∙ sym (getD-part m b k i (omega arith)))
+    ext-getD 0 (part l a k) (part m b k) (omega arith)
+    (λ i h. getD-part l a k i (omega arith) ∙ f i (omega arith) ∙ sym (getD-part m b k i (omega arith)))
 
 -- the same part, so the same there: the other way of part-ext
 pub part-at : (l m : List ℕ) (a b k i : ℕ) → part l a k ≡ part m b k → i < k → getD l (a + i) 0 ≡ getD m (b + i) 0
@@ -65,7 +67,8 @@ part-at l m a b k i e h = sym (getD-part l a k i h) ∙ ap (λ (p : List ℕ). g
 -- a part of what follows the first m numbers
 pub part-drop : (l : List ℕ) (m a k : ℕ) → part l (m + a) k ≡ part (drop m l) a k
 part-drop l m a k =
-    part-ext l (drop m l) (m + a) a k (λ i h. let e : m + a + i ≡ m + (a + i) = omega arith in ap (λ (j : ℕ). getD l j 0) e ∙ sym (getD-drop m l (a + i) 0))
+    part-ext l (drop m l) (m + a) a k
+    (λ i h. let e : m + a + i ≡ m + (a + i) = omega arith in ap (λ (j : ℕ). getD l j 0) e ∙ sym (getD-drop m l (a + i) 0))
 
 -- ---- put
 
@@ -91,7 +94,8 @@ put-append l a (x ∷ xs) ys = put-append (set l a x) (a + 1) xs ys ∙ ap (λ (
 set-put : (l : List ℕ) (a x b : ℕ) (ys : List ℕ) → a < b → put (set l a x) b ys ≡ set (put l b ys) a x
 unfolding put
 set-put l a x b [] h = refl
-set-put l a x b (y ∷ ys) h = ap (λ (m : List ℕ). put m (b + 1) ys) (set-comm l a b x y (λ e. omega arith)) ∙ set-put (set l b y) a x (b + 1) ys (omega arith)
+set-put l a x b (y ∷ ys) h =
+    ap (λ (m : List ℕ). put m (b + 1) ys) (set-comm l a b x y (λ e. omega arith)) ∙ set-put (set l b y) a x (b + 1) ys (omega arith)
 
 pub put-swap : (l : List ℕ) (a : ℕ) (xs : List ℕ) (b : ℕ) (ys : List ℕ) → a + length xs ≤ b → put (put l a xs) b ys ≡ put (put l b ys) a xs
 unfolding put
@@ -125,7 +129,8 @@ put-in l a (x ∷ xs) (suc j) h r =
 pub part-put : (l : List ℕ) (a : ℕ) (xs : List ℕ) → a + length xs ≤ length l → part (put l a xs) a (length xs) ≡ xs
 part-put l a xs h =
     let e = length-part (put l a xs) a (length xs) in
-    ext-getD 0 (part (put l a xs) a (length xs)) xs e (λ i k. getD-part (put l a xs) a (length xs) i (omega arith) ∙ put-in l a xs i (omega arith) h)
+    ext-getD 0 (part (put l a xs) a (length xs)) xs e
+    (λ i k. getD-part (put l a xs) a (length xs) i (omega arith) ∙ put-in l a xs i (omega arith) h)
 
 pub part-put-below : (l : List ℕ) (a : ℕ) (xs : List ℕ) (b k : ℕ) → b + k ≤ a → part (put l a xs) b k ≡ part l b k
 part-put-below l a xs b k h = part-ext (put l a xs) l b b k (λ i q. put-below l a xs (b + i) (omega arith))
@@ -157,8 +162,10 @@ set-below B l a x hx h i =
     either (eqb i a)
     (λ e. let q : i ≡ a = eqb-true i a e in
     either (ltb a (length l))
-    (λ t. let z = getD-set-same l a x 0 (ltb-true a (length l) t) in let y : getD (set l a x) i 0 ≡ x = ap (λ (k : ℕ). getD (set l a x) k 0) q ∙ z in omega arith)
-    (λ t. let z = set-out l a x (ltb-false a (length l) t) in let w = h i in let y : getD (set l a x) i 0 ≡ getD l i 0 = ap (λ (k : List ℕ). getD k i 0) z in omega arith))
+    (λ t. let z = getD-set-same l a x 0 (ltb-true a (length l) t) in let y : getD (set l a x) i 0 ≡ x =
+    ap (λ (k : ℕ). getD (set l a x) k 0) q ∙ z in omega arith)
+    (λ t. let z = set-out l a x (ltb-false a (length l) t) in let w = h i in let y : getD (set l a x) i 0 ≡ getD l i 0 =
+    ap (λ (k : List ℕ). getD k i 0) z in omega arith))
     (λ e. let z = getD-set-other l a i x 0 (eqb-false i a e) in let w = h i in omega arith)
 
 pub put-all-below : (B : ℕ) (l : List ℕ) (a : ℕ) (xs : List ℕ) → AllBelow B xs → AllBelow B l → AllBelow B (put l a xs)

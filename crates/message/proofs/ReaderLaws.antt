@@ -9,19 +9,22 @@ use borrow.Author.Tests.{lt-ltb, le-ltb, le-leb, lt-leb, ltb-false, eqb-true, no
 use lib.Dec.{ltb, eqb}
 use lib.ListN.{length, getD, drop}
 use Rattle.message.specs.Limits.{mostBlocks, lastView, headLength, nameWidth, blockWidth}
-use Rattle.message.specs.Message.{logKind, proposalKind, viewIn, priorityIn, malformed, anyZero, zeroNamed, namesIn, meaningIn, readCauses, means, readOf, parsedOf}
+use Rattle.message.specs.Message.{logKind, proposalKind, viewIn, priorityIn, malformed, anyZero, zeroNamed, namesIn, meaningIn}
+use Rattle.message.specs.Message.{readCauses, means, readOf, parsedOf}
 use Rattle.message.proofs.TestLaws.{or-false}
 use Rattle.message.proofs.CauseLaws.{FailsBy, first-failure}
 use Rattle.message.proofs.Acceptance.{read-refused, accepts, meaning-log, meaning-other}
 use Rattle.message.specs.declared.Message.the-variants.{Log, Proposal, Refused}
 
 -- a message that is not missized has the size that its block count says
-sized : (s : List ℕ) (k : ℕ) → (ltb mostBlocks k || not (eqb (length s) (headLength + blockWidth * k))) ≡ false → (k ≤ mostBlocks) × (length s ≡ headLength + blockWidth * k)
+sized : (s : List ℕ) (k : ℕ) → (ltb mostBlocks k || not (eqb (length s) (headLength + blockWidth * k))) ≡ false
+    → (k ≤ mostBlocks) × (length s ≡ headLength + blockWidth * k)
 sized s k e =
     let p = or-false (ltb mostBlocks k) (not (eqb (length s) (headLength + blockWidth * k))) e in
     (ltb-false mostBlocks k (p .0), eqb-true (length s) (headLength + blockWidth * k) (not-false _ (p .1)))
 
-pub room-for-names : (s : List ℕ) (k : ℕ) → (ltb mostBlocks k || not (eqb (length s) (headLength + blockWidth * k))) ≡ false → headLength + nameWidth * k ≤ length s
+pub room-for-names : (s : List ℕ) (k : ℕ) → (ltb mostBlocks k || not (eqb (length s) (headLength + blockWidth * k))) ≡ false
+    → headLength + nameWidth * k ≤ length s
 room-for-names s k e = let p = sized s k e in omega arith
 
 module _ (n : ℕ) (s : List ℕ) where
@@ -43,7 +46,8 @@ module _ (n : ℕ) (s : List ℕ) where
     pub read-2 : (ltb mostBlocks k || not (eqb (length s) (headLength + blockWidth * k))) ≡ true → parsedOf s (Refused 2) ≡ readOf n s
     read-2 e = by-cause 2 (past-1 2 (inl (rw (← count) e, refl)))
 
-    module _ (fine : (ltb mostBlocks k || not (eqb (length s) (headLength + blockWidth * k))) ≡ false) (ill : Bool) (form : ill ≡ malformed s) where
+    module _ (fine : (ltb mostBlocks k || not (eqb (length s) (headLength + blockWidth * k))) ≡ false) (ill : Bool)
+        (form : ill ≡ malformed s) where
       past-2 : (j : ℕ) → From 2 j → From 0 j
       past-2 j f = past-1 j (inr (rw (← count) fine, f))
 
@@ -72,10 +76,20 @@ module _ (n : ℕ) (s : List ℕ) where
 
           read-on : zero ≡ false → readOf n s ≡ means (meaningIn s)
           read-on e =
-              accepts n s
-              (le-ltb (length s) headLength long, (rw (← count) fine, (sym form ∙ well, (lt-leb n (getD s 1 0) known, (rw (← at) (le-ltb lastView view early), (sym seen ∙ e, tt))))))
+              accepts n s (
+                le-ltb (length s) headLength long,
+                (
+                  rw (← count) fine,
+                  (
+                    sym form
+                        ∙ well,
+                    (lt-leb n (getD s 1 0) known, (rw (← at) (le-ltb lastView view early), (sym seen ∙ e, tt))),
+                  ),
+                ),
+              )
 
-          pub read-log : zero ≡ false → getD s 2 0 ≡ logKind → parsedOf s (Log (record { view = view; sender = getD s 1 0; blocks = getD s 0 0 })) ≡ readOf n s
+          pub read-log : zero ≡ false → getD s 2 0 ≡ logKind
+              → parsedOf s (Log (record { view = view; sender = getD s 1 0; blocks = getD s 0 0 })) ≡ readOf n s
           unfolding parsedOf
           read-log e h = rw at (sym (read-on e ∙ ap means (meaning-log s h)))
 
@@ -86,6 +100,7 @@ module _ (n : ℕ) (s : List ℕ) where
 
 -- the test of refusal 3, on the bytes it reads
 pub malformed-is : (s : List ℕ) (kind priority : ℕ) → kind ≡ getD s 2 0 → priority ≡ priorityIn s
-    → (not (eqb kind logKind || eqb kind proposalKind) || (not (eqb (getD s 3 0) 0) || (eqb kind logKind && not (eqb priority 0)))) ≡ malformed s
+    → (not (eqb kind logKind || eqb kind proposalKind) || (not (eqb (getD s 3 0) 0) || (eqb kind logKind && not (eqb priority 0))))
+    ≡ malformed s
 unfolding malformed
 malformed-is s kind priority e f = rw (e, f)

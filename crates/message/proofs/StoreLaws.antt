@@ -26,9 +26,11 @@ use Rattle.message.proofs.LoopLaws.{Copying}
 -- a turn: alike, or not
 shared-step : (names counts : List ℕ) (p q left : ℕ) → 0 < left
     → sharedLength (logAt names counts p left) (logAt names counts q left)
-    ≡ pick (sameBlock (blockAt names counts p) (blockAt names counts q)) (suc (sharedLength (logAt names counts (p + 1) (left - 1)) (logAt names counts (q + 1) (left - 1)))) 0
+    ≡ pick (sameBlock (blockAt names counts p) (blockAt names counts q))
+    (suc (sharedLength (logAt names counts (p + 1) (left - 1)) (logAt names counts (q + 1) (left - 1)))) 0
 unfolding sharedLength
-shared-step names counts p q left h = let e = log-step names counts p left h in let f = log-step names counts q left h in λ i. sharedLength (e i) (f i)
+shared-step names counts p q left h = let e = log-step names counts p left h in let f = log-step names counts q left h in
+    λ i. sharedLength (e i) (f i)
 
 shared-none : (names counts : List ℕ) (p q left : ℕ) → left ≤ 0 → sharedLength (logAt names counts p left) (logAt names counts q left) ≡ 0
 unfolding sharedLength
@@ -39,7 +41,8 @@ pub record Walking (z : ℕ) (names counts : List ℕ) (p q i k : ℕ) : Type 0 
   pub places : TwoLogs names counts p q (k - i)
   pub rest : z ≡ i + sharedLength (logAt names counts p (k - i)) (logAt names counts q (k - i))
 
-pub walk-starts : (names counts : List ℕ) (p q k : ℕ) → TwoLogs names counts p q k → Walking (sharedLength (logAt names counts p k) (logAt names counts q k)) names counts p q 0 k
+pub walk-starts : (names counts : List ℕ) (p q k : ℕ) → TwoLogs names counts p q k
+    → Walking (sharedLength (logAt names counts p k) (logAt names counts q k)) names counts p q 0 k
 walk-starts names counts p q k w =
     let e : k - 0 ≡ k = omega arith in
     let f = ap (λ (j : ℕ). sharedLength (logAt names counts p j) (logAt names counts q j)) e in
@@ -63,7 +66,10 @@ module _ {z : ℕ} {names counts : List ℕ} {p q i k : ℕ} (w : Walking z name
         let b = w .places .secondName in
         let c = w .places .firstCount in
         let d = w .places .secondCount in
-        record { places = record { firstName = omega arith; secondName = omega arith; firstCount = omega arith; secondCount = omega arith }; rest = omega arith }
+        record {
+          places = record { firstName = omega arith; secondName = omega arith; firstCount = omega arith; secondCount = omega arith };
+          rest = omega arith;
+        }
 
     pub walk-off : r ≡ false → i ≡ z
     walk-off t = let e = w .rest in let f = turn false t in omega arith
@@ -84,7 +90,8 @@ shared-cut names counts a b zero y (suc k) h g c = absurd (omega arith)
 shared-cut names counts a b (suc x) zero (suc k) h g c = absurd (omega arith)
 shared-cut names counts a b (suc x) (suc y) (suc k) h g c =
     ap (λ (n : ℕ). pick (sameBlock (blockAt names counts a) (blockAt names counts b)) (suc n) 0)
-    (shared-cut names counts (a + 1) (b + 1) x y k (omega arith) (omega arith) (elim c [ inl l ↦ inl (omega arith) | inr l ↦ inr (omega arith) ]))
+    (shared-cut names counts (a + 1) (b + 1) x y k (omega arith) (omega arith)
+    (elim c [ inl l ↦ inl (omega arith) | inr l ↦ inr (omega arith) ]))
 
 -- a log of x blocks is a prefix of one not shorter where the x blocks are alike
 prefix-cut : (names counts : List ℕ) (a x b y : ℕ) → x ≤ y
@@ -99,13 +106,15 @@ prefix-cut names counts a x b y h =
     ∙ sym (shared-covers (prefix-refl (logAt names counts a x)) (logAt names counts b y))
   where
     eqb-leb : (n x : ℕ) → n ≤ x → eqb n x ≡ leb x n
-    eqb-leb n x h = either (leb x n) (λ t. let q = leb-true x n t in eq-eqb n x (omega arith) ∙ sym t) (λ t. let q = leb-false x n t in ne-eqb n x (λ e. omega arith) ∙ sym t)
+    eqb-leb n x h = either (leb x n) (λ t. let q = leb-true x n t in eq-eqb n x (omega arith) ∙ sym t)
+        (λ t. let q = leb-false x n t in ne-eqb n x (λ e. omega arith) ∙ sym t)
 
 -- a log is no prefix of a shorter one
 not-longer : (names counts : List ℕ) (a x b y : ℕ) → y < x → isPrefix (logAt names counts a x) (logAt names counts b y) ≡ false
 not-longer names counts a x b y h = go (isPrefix (logAt names counts a x) (logAt names counts b y)) refl
   where
-    go : (t : Bool) → isPrefix (logAt names counts a x) (logAt names counts b y) ≡ t → isPrefix (logAt names counts a x) (logAt names counts b y) ≡ false
+    go : (t : Bool) → isPrefix (logAt names counts a x) (logAt names counts b y) ≡ t
+        → isPrefix (logAt names counts a x) (logAt names counts b y) ≡ false
     go false e = e
     go true e =
         let p = prefix-length (isPrefix-iff (logAt names counts a x) (logAt names counts b y) .0 e) in
@@ -135,7 +144,8 @@ module _ (names counts : List ℕ) (a x b y : ℕ) (v w : Bool) (e : v ≡ withi
   pub prefix-asks : ((v && w) && leb x y) ≡ true → TwoLogs names counts a b x
   prefix-asks t = let s = short t in first-asks (s .0) (s .1)
 
-  pub prefix-is : (r : ℕ) → ((v && w) && leb x y) ≡ true → r ≡ sharedLength (logAt names counts a x) (logAt names counts b x) → eqb r x ≡ prefixAt names counts a x b y
+  pub prefix-is : (r : ℕ) → ((v && w) && leb x y) ≡ true → r ≡ sharedLength (logAt names counts a x) (logAt names counts b x)
+      → eqb r x ≡ prefixAt names counts a x b y
   unfolding prefixAt
   prefix-is r t q = let s = short t in rw (← e, ← f, s .0) (ap (λ (n : ℕ). eqb n x) q ∙ prefix-cut names counts a x b y (s .1))
 
@@ -180,7 +190,8 @@ pub holds-is : (s : List ℕ) (k : ℕ) → k ≡ getD s 0 0 → (leb k mostBloc
 holds-is s k e = rw e
 
 -- a message that holds a log, and a log within the lists of no more blocks
-holds-asks : (s names counts : List ℕ) (a k : ℕ) (v w : Bool) → v ≡ holdsLog s → w ≡ within names counts a k → (v && w) ≡ true → k ≤ countIn s → BytesAndLog s names counts a k
+holds-asks : (s names counts : List ℕ) (a k : ℕ) (v w : Bool) → v ≡ holdsLog s → w ≡ within names counts a k → (v && w) ≡ true
+    → k ≤ countIn s → BytesAndLog s names counts a k
 holds-asks s names counts a k v w e f t g =
     let p = and-eq-true-iff v w .0 t in
     let m = within-of names counts a k (sym f ∙ p .1) in
@@ -200,7 +211,8 @@ and-swap false b c d = refl
 
 -- blocks are the same where their names are and their counts are
 blocks-alike : (s names counts : List ℕ) (p q a k : ℕ)
-    → (alike (numbersAt nameWidth s p k) (part names a k) && alike (numbersAt countWidth s q k) (part counts a k)) ≡ sameLog (blocksFrom s p q k) (logAt names counts a k)
+    → (alike (numbersAt nameWidth s p k) (part names a k) && alike (numbersAt countWidth s q k) (part counts a k)) ≡ sameLog
+    (blocksFrom s p q k) (logAt names counts a k)
 unfolding alike numbersAt part sameLog inStep logAt
 blocks-alike s names counts p q a zero = refl
 blocks-alike s names counts p q a (suc k) =
@@ -212,25 +224,30 @@ blocks-alike s names counts p q a (suc k) =
     ∙ ap (λ (v : Bool). (eqb (numberAt nameWidth s p) (getD names a 0) && eqb (numberAt countWidth s q) (getD counts a 0)) && v)
     (blocks-alike s names counts (p + nameWidth) (q + countWidth) (a + 1) k)
 
-pub blocks-are : (s names counts : List ℕ) (a k : ℕ) (r t : Bool) → r ≡ alike (namesIn s k) (part names a k) → t ≡ alike (countsIn s k) (part counts a k)
+pub blocks-are : (s names counts : List ℕ) (a k : ℕ) (r t : Bool) → r ≡ alike (namesIn s k) (part names a k)
+    → t ≡ alike (countsIn s k) (part counts a k)
     → (r && t) ≡ sameLog (blocksIn s k) (logAt names counts a k)
 blocks-are s names counts a k r t e f = rw (e, f) (blocks-alike s names counts headLength (headLength + nameWidth * k) a k)
 
 -- what the two walks ask
-pub asks-names : {s names counts : List ℕ} {a k : ℕ} → BytesAndLog s names counts a k → (headLength + nameWidth * k ≤ length s) × (a + k ≤ length names)
+pub asks-names : {s names counts : List ℕ} {a k : ℕ} → BytesAndLog s names counts a k
+    → (headLength + nameWidth * k ≤ length s) × (a + k ≤ length names)
 asks-names h = let b = h .bytes in (omega arith, h .inNames)
 
-pub asks-counts : {s names counts : List ℕ} {a k : ℕ} → BytesAndLog s names counts a k → (headLength + blockWidth * k ≤ length s) × (a + k ≤ length counts)
+pub asks-counts : {s names counts : List ℕ} {a k : ℕ} → BytesAndLog s names counts a k
+    → (headLength + blockWidth * k ≤ length s) × (a + k ≤ length counts)
 asks-counts h = (h .bytes, h .inCounts)
 
-module _ (s names counts : List ℕ) (a x : ℕ) (v w : Bool) (e : v ≡ holdsLog s) (f : w ≡ within names counts a x) (k : ℕ) (g : k ≡ getD s 0 0) where
+module _ (s names counts : List ℕ) (a x : ℕ) (v w : Bool) (e : v ≡ holdsLog s) (f : w ≡ within names counts a x) (k : ℕ)
+    (g : k ≡ getD s 0 0) where
   apart : ((v && w) && eqb k x) ≡ true → ((v && w) ≡ true) × (k ≡ x)
   apart t = let p = and-eq-true-iff (v && w) (eqb k x) .0 t in (p .0, eqb-true k x (p .1))
 
   pub match-asks : ((v && w) && eqb k x) ≡ true → BytesAndLog s names counts a x
   match-asks t = let p = apart t in let l = p .1 in holds-asks s names counts a x v w e f (p .0) (omega arith)
 
-  pub match-is : (r : Bool) → ((v && w) && eqb k x) ≡ true → r ≡ sameLog (blocksIn s x) (logAt names counts a x) → r ≡ matchesAt s names counts a x
+  pub match-is : (r : Bool) → ((v && w) && eqb k x) ≡ true → r ≡ sameLog (blocksIn s x) (logAt names counts a x)
+      → r ≡ matchesAt s names counts a x
   unfolding matchesAt
   match-is r t q = let p = apart t in rw (← e, ← f, p .0, ← g, p .1) q
 
@@ -260,13 +277,15 @@ module _ (ok : Bool) (names counts : List ℕ) (a : ℕ) (L : Log) where
   unfolding storeOf
   stored-not t = rw t (record { answered = refl; nameList = refl; countList = refl })
 
-  stored : (ns cs : List ℕ) → ok ≡ true → ns ≡ put names a (namesOf L) → cs ≡ put counts a (countsOf L) → Stores (storeOf ok names counts a L) true ns cs
+  stored : (ns cs : List ℕ) → ok ≡ true → ns ≡ put names a (namesOf L) → cs ≡ put counts a (countsOf L)
+      → Stores (storeOf ok names counts a L) true ns cs
   unfolding storeOf
   stored ns cs t m n = rw t (record { answered = refl; nameList = m; countList = n })
 
 -- ---- filing
 
-module _ (names counts : List ℕ) (a : ℕ) (s : List ℕ) (k : ℕ) (g : k ≡ getD s 0 0) (v w : Bool) (e : v ≡ holdsLog s) (f : w ≡ within names counts a k) where
+module _ (names counts : List ℕ) (a : ℕ) (s : List ℕ) (k : ℕ) (g : k ≡ getD s 0 0) (v w : Bool) (e : v ≡ holdsLog s)
+    (f : w ≡ within names counts a k) where
   tested : (holdsLog s && within names counts a (countIn s)) ≡ (v && w)
   tested = rw (← e, ← g, ← f)
 
@@ -276,11 +295,13 @@ module _ (names counts : List ℕ) (a : ℕ) (s : List ℕ) (k : ℕ) (g : k ≡
   pub file-asks : (v && w) ≡ true → BytesAndLog s names counts a k
   file-asks t = holds-asks s names counts a k v w e f t (omega arith)
 
-  pub file-done : (ns cs : List ℕ) → (v && w) ≡ true → ns ≡ put names a (namesIn s k) → cs ≡ put counts a (countsIn s k) → Stores (fileOf names counts a s) true ns cs
+  pub file-done : (ns cs : List ℕ) → (v && w) ≡ true → ns ≡ put names a (namesIn s k) → cs ≡ put counts a (countsIn s k)
+      → Stores (fileOf names counts a s) true ns cs
   file-done ns cs t m n =
       let p : namesIn s k ≡ namesOf (logIn s) = sym (names-in s k) ∙ ap (λ (j : ℕ). namesOf (blocksIn s j)) g in
       let q : countsIn s k ≡ countsOf (logIn s) = sym (counts-in s k) ∙ ap (λ (j : ℕ). countsOf (blocksIn s j)) g in
-      stored (holdsLog s && within names counts a (countIn s)) names counts a (logIn s) ns cs (tested ∙ t) (m ∙ ap (put names a) p) (n ∙ ap (put counts a) q)
+      stored (holdsLog s && within names counts a (countIn s)) names counts a (logIn s) ns cs (tested ∙ t) (m ∙ ap (put names a) p)
+      (n ∙ ap (put counts a) q)
 
 -- ---- copying
 
@@ -292,7 +313,8 @@ module _ (names counts : List ℕ) (a b k : ℕ) (v w : Bool) (e : v ≡ leb (a 
   copy-outside t = stored-not (leb (a + k) b && within names counts b k) names counts b (logAt names counts a k) (allowed ∙ t)
 
   -- the two walks as they start
-  pub copy-starts : (v && w) ≡ true → Copying b names (put names b (part names a k)) names a b k × Copying b counts (put counts b (part counts a k)) counts a b k
+  pub copy-starts : (v && w) ≡ true
+      → Copying b names (put names b (part names a k)) names a b k × Copying b counts (put counts b (part counts a k)) counts a b k
   copy-starts t =
       let p = and-eq-true-iff v w .0 t in
       let m = within-of names counts b k (sym f ∙ p .1) in
@@ -310,5 +332,6 @@ module _ (names counts : List ℕ) (a b k : ℕ) (v w : Bool) (e : v ≡ leb (a 
 
 -- ---- the test of a range, on what the code found
 
-pub within-is : (m n a k : ℕ) (v w : Bool) → v ≡ leb (a + k) m → w ≡ leb (a + k) n → (leb k mostBlocks && (v && w)) ≡ (leb k mostBlocks && (leb (a + k) m && leb (a + k) n))
+pub within-is : (m n a k : ℕ) (v w : Bool) → v ≡ leb (a + k) m → w ≡ leb (a + k) n
+    → (leb k mostBlocks && (v && w)) ≡ (leb k mostBlocks && (leb (a + k) m && leb (a + k) n))
 within-is m n a k v w e f = rw (e, f)

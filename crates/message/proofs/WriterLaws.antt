@@ -24,13 +24,15 @@ pub started : (o : List ℕ) (k sender kind : ℕ) → set (set (set (set o 0 k)
 unfolding put
 started o k sender kind = refl
 
-pub headed : (o o₀ o₁ o₂ : List ℕ) (k sender kind view priority : ℕ) → o₀ ≡ put o 0 (k ∷ sender ∷ kind ∷ 0 ∷ []) → o₁ ≡ put o₀ 4 (bytesFor 4 view)
+pub headed : (o o₀ o₁ o₂ : List ℕ) (k sender kind view priority : ℕ) → o₀ ≡ put o 0 (k ∷ sender ∷ kind ∷ 0 ∷ [])
+    → o₁ ≡ put o₀ 4 (bytesFor 4 view)
     → o₂ ≡ put o₁ 8 (bytesFor 8 priority) → o₂ ≡ put o 0 (k ∷ sender ∷ kind ∷ 0 ∷ (bytesFor 4 view ++ bytesFor 8 priority))
 headed o o₀ o₁ o₂ k sender kind view priority e₀ e₁ e₂ =
     rw (e₂, e₁, e₀)
     (sym (put-append o 0 (k ∷ sender ∷ kind ∷ 0 ∷ []) (bytesFor 4 view ++ bytesFor 8 priority)
     ∙ put-append (put o 0 (k ∷ sender ∷ kind ∷ 0 ∷ [])) 4 (bytesFor 4 view) (bytesFor 8 priority)
-    ∙ ap (λ (n : ℕ). put (put (put o 0 (k ∷ sender ∷ kind ∷ 0 ∷ [])) 4 (bytesFor 4 view)) (4 + n) (bytesFor 8 priority)) (length-bytes 4 view)))
+    ∙ ap (λ (n : ℕ). put (put (put o 0 (k ∷ sender ∷ kind ∷ 0 ∷ [])) 4 (bytesFor 4 view)) (4 + n) (bytesFor 8 priority))
+    (length-bytes 4 view)))
 
 -- ---- numbers, and one more
 
@@ -42,7 +44,8 @@ bytes-one : (w x : ℕ) → bytesForEach w (x ∷ []) ≡ bytesFor w x
 unfolding bytesForEach
 bytes-one w x = append-nil (bytesFor w x)
 
-one-more : (w : ℕ) (o o₀ o₁ ns : List ℕ) (at a k x : ℕ) → o₀ ≡ put o at (bytesForEach w (part ns a k)) → o₁ ≡ put o₀ (at + w * k) (bytesFor w x)
+one-more : (w : ℕ) (o o₀ o₁ ns : List ℕ) (at a k x : ℕ) → o₀ ≡ put o at (bytesForEach w (part ns a k))
+    → o₁ ≡ put o₀ (at + w * k) (bytesFor w x)
     → o₁ ≡ put o at (bytesForEach w (part ns a k ++ (x ∷ [])))
 one-more w o o₀ o₁ ns at a k x e₀ e₁ =
     let l = numbers-length w k (part ns a k) (length-part ns a k) in
@@ -66,16 +69,19 @@ message-written m kind priority o o₀ o₁ o₂ e₀ e₁ e₂ =
     let ns = bytesForEach nameWidth (namesOf (m .log)) in
     let cs = bytesForEach countWidth (countsOf (m .log)) in
     let l : length head ≡ headLength =
-    let p = length-append (bytesFor 4 (m .view)) (bytesFor 8 priority) in let q = length-bytes 4 (m .view) in let r = length-bytes 8 priority in omega arith in
+    let p = length-append (bytesFor 4 (m .view)) (bytesFor 8 priority) in let q = length-bytes 4 (m .view) in let r =
+    length-bytes 8 priority in omega arith in
     let w : head ++ (ns ++ cs) ≡ length (m .log) ∷ m .sender ∷ kind ∷ 0 ∷ (bytesFor 4 (m .view) ++ (bytesFor 8 priority ++ (ns ++ cs))) =
-    ap (λ (t : List ℕ). length (m .log) ∷ m .sender ∷ kind ∷ 0 ∷ t) (append-assoc (bytesFor 4 (m .view)) (bytesFor 8 priority) (ns ++ cs)) in
+    ap (λ (t : List ℕ). length (m .log) ∷ m .sender ∷ kind ∷ 0 ∷ t)
+    (append-assoc (bytesFor 4 (m .view)) (bytesFor 8 priority) (ns ++ cs)) in
     rw (e₂, e₁, e₀)
     (sym (ap (put o 0) (sym w)
     ∙ put-append o 0 head (ns ++ cs)
     ∙ ap (λ (j : ℕ). put (put o 0 head) (0 + j) (ns ++ cs)) l
     ∙ put-append (put o 0 head) headLength ns cs))
 
-log-put : (names counts : List ℕ) (a k sender view : ℕ) (o o′ : List ℕ) → o′ ≡ withFirst o names counts a k k (headOf k sender logKind view 0)
+log-put : (names counts : List ℕ) (a k sender view : ℕ) (o o′ : List ℕ)
+    → o′ ≡ withFirst o names counts a k k (headOf k sender logKind view 0)
     → o′ ≡ put o 0 (bytesOf (logFrom names counts a k sender view))
 unfolding bytesOf
 log-put names counts a k sender view o o′ e =
@@ -84,7 +90,8 @@ log-put names counts a k sender view o o′ e =
     let r = counts-at names counts a k in
     let l = numbers-length nameWidth k (part names a k) (length-part names a k) in
     let begun = put o 0 (headOf k sender logKind view 0) in
-    message-written (record { sender = sender; view = view; log = logAt names counts a k }) logKind 0 o begun (put begun headLength (bytesForEach nameWidth (part names a k))) o′ (rw p refl) (rw q refl) (rw (q, r, l) e)
+    message-written (record { sender = sender; view = view; log = logAt names counts a k }) logKind 0 o begun
+    (put begun headLength (bytesForEach nameWidth (part names a k))) o′ (rw p refl) (rw q refl) (rw (q, r, l) e)
 
 -- one block more: its name is written past the names, its count past the counts
 proposal-put : (names counts : List ℕ) (a k : ℕ) (block : Block) (sender view priority : ℕ) (o o₁ o₂ o₃ : List ℕ)
@@ -105,7 +112,8 @@ proposal-put names counts a k block sender view priority o o₁ o₂ o₃ e₁ e
     names-append L (block ∷ []) ∙ ap (λ (t : List ℕ). t ++ (block .name ∷ [])) (names-at names counts a k) in
     let r : countsOf (L ++ (block ∷ [])) ≡ part counts a k ++ (block .count ∷ []) =
     counts-append L (block ∷ []) ∙ ap (λ (t : List ℕ). t ++ (block .count ∷ [])) (counts-at names counts a k) in
-    let n : length (part names a k ++ (block .name ∷ [])) ≡ k + 1 = length-append (part names a k) (block .name ∷ []) ∙ ap (λ (j : ℕ). j + 1) (length-part names a k) in
+    let n : length (part names a k ++ (block .name ∷ [])) ≡ k + 1 =
+    length-append (part names a k) (block .name ∷ []) ∙ ap (λ (j : ℕ). j + 1) (length-part names a k) in
     let l = numbers-length nameWidth (k + 1) (part names a k ++ (block .name ∷ [])) n in
     let named = put o₀ headLength (bytesForEach nameWidth (part names a k ++ (block .name ∷ []))) in
     let w = length-bytes nameWidth (block .name) in
@@ -113,9 +121,12 @@ proposal-put names counts a k block sender view priority o o₁ o₂ o₃ e₁ e
     e₂ ∙ ap (λ (t : List ℕ). put t (headLength + nameWidth * k) x) e₁
     ∙ sym (put-swap (put o₀ headLength ns) (headLength + nameWidth * k) x (headLength + nameWidth * (k + 1)) cs (omega arith))
     ∙ ap (λ (t : List ℕ). put t (headLength + nameWidth * (k + 1)) cs)
-    (one-more nameWidth o₀ (put o₀ headLength ns) (put (put o₀ headLength ns) (headLength + nameWidth * k) x) names headLength a k (block .name) refl refl) in
-    let g = one-more countWidth named o₂ o₃ counts (headLength + nameWidth * (k + 1)) a k (block .count) f (e₃ ∙ ap (λ (j : ℕ). put o₂ j (bytesFor countWidth (block .count))) e) in
-    message-written (record { sender = sender; view = view; log = L ++ (block ∷ []) }) proposalKind priority o o₀ named o₃ (rw p refl) (rw q refl) (rw (q, r, l) g)
+    (one-more nameWidth o₀ (put o₀ headLength ns) (put (put o₀ headLength ns) (headLength + nameWidth * k) x) names headLength a k
+    (block .name) refl refl) in
+    let g = one-more countWidth named o₂ o₃ counts (headLength + nameWidth * (k + 1)) a k (block .count) f
+    (e₃ ∙ ap (λ (j : ℕ). put o₂ j (bytesFor countWidth (block .count))) e) in
+    message-written (record { sender = sender; view = view; log = L ++ (block ∷ []) }) proposalKind priority o o₀ named o₃ (rw p refl)
+    (rw q refl) (rw (q, r, l) g)
 
 -- ---- the head and the first blocks
 
@@ -123,11 +134,14 @@ room-long : (out names counts : List ℕ) (a k m : ℕ) → mostBlocks < m → f
 unfolding roomFor
 room-long out names counts a k m h = rw (lt-leb m mostBlocks h)
 
-pub first-room : (out : List ℕ) (m : ℕ) (w : Bool) → (w && leb (headLength + blockWidth * m) (length out)) ≡ true → headLength + blockWidth * m ≤ length out
-first-room out m w t = leb-true (headLength + blockWidth * m) (length out) (and-eq-true-iff w (leb (headLength + blockWidth * m) (length out)) .0 t .1)
+pub first-room : (out : List ℕ) (m : ℕ) (w : Bool) → (w && leb (headLength + blockWidth * m) (length out)) ≡ true
+    → headLength + blockWidth * m ≤ length out
+first-room out m w t =
+    leb-true (headLength + blockWidth * m) (length out) (and-eq-true-iff w (leb (headLength + blockWidth * m) (length out)) .0 t .1)
 
 -- o is the buffer with what was written so far
-module _ (out names counts : List ℕ) (a k m : ℕ) (w : Bool) (e : w ≡ within names counts a k) (t : (w && leb (headLength + blockWidth * m) (length out)) ≡ true)
+module _ (out names counts : List ℕ) (a k m : ℕ) (w : Bool) (e : w ≡ within names counts a k)
+    (t : (w && leb (headLength + blockWidth * m) (length out)) ≡ true)
     (fewer : k ≤ m) (o : List ℕ) (l : length o ≡ length out) where
   inside : Within names counts a k
   inside = within-of names counts a k (sym e ∙ and-eq-true-iff w (leb (headLength + blockWidth * m) (length out)) .0 t .0)
@@ -147,19 +161,24 @@ module _ (out names counts : List ℕ) (a k m sender kind view priority : ℕ) w
     unfolding roomFor
     test t f = sym f ∙ rw (le-leb m mostBlocks few, e)
 
-    pub first-not : (w && leb (headLength + blockWidth * m) (length out)) ≡ false → WritesFirst out names counts a k m sender kind view priority false out
+    pub first-not : (w && leb (headLength + blockWidth * m) (length out)) ≡ false
+        → WritesFirst out names counts a k m sender kind view priority false out
     first-not t = record { answered = test false t; buffer = refl }
 
-    pub first-done : (o₀ o₁ o₂ : List ℕ) → (w && leb (headLength + blockWidth * m) (length out)) ≡ true → o₀ ≡ put out 0 (headOf m sender kind view priority) → o₁ ≡ put o₀ headLength (bytesForEach nameWidth (part names a k))
-        → o₂ ≡ put o₁ (headLength + nameWidth * m) (bytesForEach countWidth (part counts a k)) → WritesFirst out names counts a k m sender kind view priority true o₂
+    pub first-done : (o₀ o₁ o₂ : List ℕ) → (w && leb (headLength + blockWidth * m) (length out)) ≡ true
+        → o₀ ≡ put out 0 (headOf m sender kind view priority) → o₁ ≡ put o₀ headLength (bytesForEach nameWidth (part names a k))
+        → o₂ ≡ put o₁ (headLength + nameWidth * m) (bytesForEach countWidth (part counts a k))
+        → WritesFirst out names counts a k m sender kind view priority true o₂
     first-done o₀ o₁ o₂ t p q r = record { answered = test true t; buffer = r ∙ rw (q, p) }
 
 -- what is written has room for one block more
-pub block-room : {out names counts : List ℕ} {a k m sender kind view priority : ℕ} {r : Bool} {o : List ℕ} → WritesFirst out names counts a k m sender kind view priority r o
+pub block-room : {out names counts : List ℕ} {a k m sender kind view priority : ℕ} {r : Bool} {o : List ℕ}
+    → WritesFirst out names counts a k m sender kind view priority r o
     → r ≡ true → headLength + blockWidth * m ≤ length o
 unfolding roomFor
 block-room {out} {names} {counts} {a} {k} {m} {sender} {kind} {view} {priority} {r} {o} f t =
-    let p = and-eq-true-iff (leb m mostBlocks) (within names counts a k && leb (headLength + blockWidth * m) (length out)) .0 (sym (f .answered) ∙ t) in
+    let p = and-eq-true-iff (leb m mostBlocks) (within names counts a k && leb (headLength + blockWidth * m) (length out)) .0
+    (sym (f .answered) ∙ t) in
     let q = and-eq-true-iff (within names counts a k) (leb (headLength + blockWidth * m) (length out)) .0 (p .1) in
     let h = leb-true (headLength + blockWidth * m) (length out) (q .1) in
     let begun = put out 0 (headOf m sender kind view priority) in
@@ -183,25 +202,30 @@ module _ (ok : Bool) (out : List ℕ) (m : Meaning) (z : Bool) (e : z ≡ ok) wh
   unfolding writeOf
   message-not o t q = rw (← e, t) (record { answered = refl; buffer = q })
 
-pub log-written : (out names counts : List ℕ) (a k sender view : ℕ) (r : Bool) (o : List ℕ) → WritesFirst out names counts a k k sender logKind view 0 r o
+pub log-written : (out names counts : List ℕ) (a k sender view : ℕ) (r : Bool) (o : List ℕ)
+    → WritesFirst out names counts a k k sender logKind view 0 r o
     → Writes (writeLogOf out names counts a k sender view) r o
-log-written out names counts a k sender view false o f = message-not (roomFor out names counts a k k) out (logFrom names counts a k sender view) false (f .answered) o refl (f .buffer)
+log-written out names counts a k sender view false o f =
+    message-not (roomFor out names counts a k k) out (logFrom names counts a k sender view) false (f .answered) o refl (f .buffer)
 log-written out names counts a k sender view true o f =
-    message-done (roomFor out names counts a k k) out (logFrom names counts a k sender view) true (f .answered) o refl (log-put names counts a k sender view out o (f .buffer))
+    message-done (roomFor out names counts a k k) out (logFrom names counts a k sender view) true (f .answered) o refl
+    (log-put names counts a k sender view out o (f .buffer))
 
 module _ (out names counts : List ℕ) (a k name count sender view priority : ℕ) where
   abbrev made : Meaning
   made = proposalFrom names counts a k (record { name = name; count = count }) sender view priority
 
   pub proposal-full : mostBlocks ≤ k → Writes (writeOf (roomFor out names counts a k (k + 1)) out made) false out
-  proposal-full h = message-not (roomFor out names counts a k (k + 1)) out made false (room-long out names counts a k (k + 1) (omega arith)) out refl refl
+  proposal-full h = message-not (roomFor out names counts a k (k + 1)) out made false
+      (room-long out names counts a k (k + 1) (omega arith)) out refl refl
 
   module _ (r : Bool) (o : List ℕ) (f : WritesFirst out names counts a k (k + 1) sender proposalKind view priority r o) where
     pub proposal-not : r ≡ false → Writes (writeOf (roomFor out names counts a k (k + 1)) out made) false o
     proposal-not t = message-not (roomFor out names counts a k (k + 1)) out made r (f .answered) o t (f .buffer ∙ rw t)
 
     pub proposal-done : (o₁ o₂ : List ℕ) → r ≡ true → o₁ ≡ put o (headLength + nameWidth * k) (bytesFor nameWidth name)
-        → o₂ ≡ put o₁ (headLength + nameWidth * k + nameWidth + countWidth * k) (bytesFor countWidth count) → Writes (writeOf (roomFor out names counts a k (k + 1)) out made) true o₂
+        → o₂ ≡ put o₁ (headLength + nameWidth * k + nameWidth + countWidth * k) (bytesFor countWidth count)
+        → Writes (writeOf (roomFor out names counts a k (k + 1)) out made) true o₂
     proposal-done o₁ o₂ t p q =
         message-done (roomFor out names counts a k (k + 1)) out made r (f .answered) o₂ t
         (proposal-put names counts a k (record { name = name; count = count }) sender view priority out o o₁ o₂ (f .buffer ∙ rw t) p q)

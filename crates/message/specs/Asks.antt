@@ -22,7 +22,8 @@ headOf m sender kind view priority = m ∷ sender ∷ kind ∷ 0 ∷ (bytesFor 4
 -- the buffer with a message's head, the names of the k blocks at place a, and their counts past m names
 abbrev pub withFirst : List ℕ → List ℕ → List ℕ → ℕ → ℕ → ℕ → List ℕ → List ℕ
 withFirst out names counts a k m head =
-    put (put (put out 0 head) headLength (bytesForEach nameWidth (part names a k))) (headLength + nameWidth * m) (bytesForEach countWidth (part counts a k))
+    put (put (put out 0 head) headLength (bytesForEach nameWidth (part names a k))) (headLength + nameWidth * m)
+    (bytesForEach countWidth (part counts a k))
 
 -- where there is room, the head of a message of m blocks is written and the first k of them, the ones at place a
 pub record WritesFirst (out names counts : List ℕ) (a k m sender kind view priority : ℕ) (answer : Bool) (o : List ℕ) : Type 0 where

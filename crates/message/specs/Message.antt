@@ -1,5 +1,5 @@
--- The message: its meaning, its one writing, and what is read from bytes (document 01, "The message" and refusals 1 to 6 of "From the input").
--- Assumes nothing.
+-- The message: its meaning, its one writing, and what is read from bytes (document 01, "The message" and refusals 1 to 6 of "From the
+-- input"). Assumes nothing.
 use Prim.Native.Nat.{ℕ, _+_, _*_, _^_, _<_, _≤_}
 use mathlib.Core.List.{List, [], _∷_, _++_}
 use mathlib.Core.Bool.{Bool, false, not, _&&_, _||_}
@@ -55,7 +55,8 @@ messageBytes m kind priority =
     ∷ m .sender
     ∷ kind
     ∷ 0
-    ∷ (bytesFor 4 (m .view) ++ (bytesFor 8 priority ++ (bytesForEach nameWidth (namesOf (m .log)) ++ bytesForEach countWidth (countsOf (m .log)))))
+    ∷ (bytesFor 4 (m .view) ++
+    (bytesFor 8 priority ++ (bytesForEach nameWidth (namesOf (m .log)) ++ bytesForEach countWidth (countsOf (m .log)))))
 
 -- The priority is zero in a LOG.
 unfoldable pub bytesOf : Meaning → List ℕ

@@ -1,5 +1,5 @@
--- Logs in the two lent lists, names in one and entry counts in the other (document 01, "Four calls"), and what the functions over them promise.
--- Assumes nothing.
+-- Logs in the two lent lists, names in one and entry counts in the other (document 01, "Four calls"), and what the functions over them
+-- promise. Assumes nothing.
 use Prim.Native.Nat.{ℕ, _+_, _*_}
 use mathlib.Core.List.{List, [], _∷_, _++_}
 use mathlib.Core.Bool.{Bool, true, false, _&&_}

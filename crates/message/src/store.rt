@@ -1,6 +1,5 @@
-// Logs in the two lent lists, names in one and entry counts in the other: compared, filed from a message, copied.
-// Each answers for every place and length: what is no log within the lists is answered by false, or
-// by 0 where a number is asked, and nothing is written.
+// Logs in the two lent lists, names in one and entry counts in the other: compared, filed from a message, copied. Each answers for every
+// place and length: what is no log within the lists is answered by false, or by 0 where a number is asked, and nothing is written.
 ghost use mathlib.Core.Path.{_≡_};
 ghost use mathlib.Core.Bool.{_&&_};
 ghost use Prim.Native.Nat.{_+_, _*_, _<_, _≤_};
@@ -40,7 +39,8 @@ fn is_block(names: &[u64], counts: &[u16], a: usize, name: u64, count: u16) -> b
 // How many of the k blocks at a and the k blocks at b are alike before two differ.
 fn shared_blocks(names: &[u64], counts: &[u16], mut a: usize, mut b: usize, k: usize) -> usize
     requires { ⌜ TwoLogs (now names) (now counts) a b k ⌝ }
-    ensures { λ r. ⌜ r ≡ sharedLength (logAt (now (names .entry)) (now (counts .entry)) a k) (logAt (now (names .entry)) (now (counts .entry)) b k) ⌝ }
+    ensures { λ r. ⌜ r ≡ sharedLength (logAt (now (names .entry)) (now (counts .entry)) a k)
+        (logAt (now (names .entry)) (now (counts .entry)) b k) ⌝ }
 {
     let mut i = 0;
     while i < k {
@@ -180,7 +180,8 @@ fn file_counts(counts: &mut [u16], mut a: usize, s: &[u8], mut k: usize)
 
 // The log in the message, filed from place a on. False, and nothing written, where there is no log or no room there.
 pub fn file(names: &mut [u64], counts: &mut [u16], a: usize, bytes: &[u8]) -> bool
-    ensures { λ r. ⌜ Stores (fileOf (now (names .entry)) (now (counts .entry)) a (now (bytes .entry))) r (now (names .exit)) (now (counts .exit)) ⌝ }
+    ensures { λ r. ⌜ Stores (fileOf (now (names .entry)) (now (counts .entry)) a (now (bytes .entry))) r (now (names .exit))
+        (now (counts .exit)) ⌝ }
 {
     let k = count_in(bytes);
     if holds_log(bytes) & is_within(names.len(), counts.len(), a, k) {

@@ -79,7 +79,8 @@ fn write_first(
     priority: u64,
 ) -> bool
     requires { ⌜ k ≤ m ⌝ }
-    ensures { λ r. ⌜ WritesFirst (now (out .entry)) (now (names .entry)) (now (counts .entry)) a k m sender kind view priority r (now (out .exit)) ⌝ }
+    ensures { λ r. ⌜ WritesFirst (now (out .entry)) (now (names .entry)) (now (counts .entry)) a k m sender kind view priority r
+        (now (out .exit)) ⌝ }
 {
     if MOST_BLOCKS < m {
         return false;
@@ -104,7 +105,8 @@ pub fn write_log(
     sender: u8,
     view: u32,
 ) -> bool
-    ensures { λ r. ⌜ Writes (writeLogOf (now (out .entry)) (now (names .entry)) (now (counts .entry)) a k sender view) r (now (out .exit)) ⌝ }
+    ensures { λ r. ⌜ Writes (writeLogOf (now (out .entry)) (now (names .entry)) (now (counts .entry)) a k sender view) r
+        (now (out .exit)) ⌝ }
 {
     write_first(out, names, counts, a, k, k, sender, LOG_KIND, view, 0)
 }
@@ -122,7 +124,9 @@ pub fn write_proposal(
     view: u32,
     priority: u64,
 ) -> bool
-    ensures { λ r. ⌜ Writes (writeProposalOf (now (out .entry)) (now (names .entry)) (now (counts .entry)) a k (record { name = name; count = count }) sender view priority) r (now (out .exit)) ⌝ }
+    ensures { λ r. ⌜ Writes
+        (writeProposalOf (now (out .entry)) (now (names .entry)) (now (counts .entry)) a k
+        (record { name = name; count = count }) sender view priority) r (now (out .exit)) ⌝ }
 {
     if MOST_BLOCKS <= k {
         return false;

@@ -25,21 +25,25 @@ use Rattle.bench.specs.declared.Taken.{Taken}
 use Rattle.bench.specs.declared.Taken.the-variants as takings
 use Rattle.bench.specs.declared.Made.{Made}
 use Rattle.bench.specs.declared.Made.the-variants as makings
-use Rattle.bench.proofs.Replies.{start-done, start-refused, taken-first, taken-second, taken-known, taken-refused, made-nothing, made-log, made-proposal, made-refused}
+use Rattle.bench.proofs.Replies.{start-done, start-refused, taken-first, taken-second, taken-known, taken-refused, made-nothing, made-log}
+use Rattle.bench.proofs.Replies.{made-proposal, made-refused}
 use Rattle.bench.proofs.Buffer.{same-reply, same-held}
 use Rattle.run.specs.declared.Answered.{Answered}
 use Rattle.run.specs.declared.Answered.the-variants as answers
 use Rattle.run.specs.declared.Offer.{Offer}
 use Rattle.run.specs.Texts.{ascii, decimal}
-use Rattle.run.specs.Roll.{mostRoll, misshapen, eventsOf, benchesOf, ownOf, kindAt, lengthAt, beginKind, receiveKind, freshBuffer, offeredAt, priorityAt, callAt, callsOf}
-use Rattle.run.specs.RollText.{madeText, markText, replyText, lineFor, lineOf, stepOf, linesOf, noRollText, firstLine, isDone, openedText, freshLists, textOf, WritesText}
+use Rattle.run.specs.Roll.{mostRoll, misshapen, eventsOf, benchesOf, ownOf, kindAt, lengthAt, beginKind, receiveKind, freshBuffer}
+use Rattle.run.specs.Roll.{offeredAt, priorityAt, callAt, callsOf}
+use Rattle.run.specs.RollText.{madeText, markText, replyText, lineFor, lineOf, stepOf, linesOf, noRollText, firstLine, isDone}
+use Rattle.run.specs.RollText.{openedText, freshLists, textOf, WritesText}
 use Rattle.run.specs.RollSteps.{endText, startText, takenText, standText, actedText, answerText, offerAt, Puts, EventGives, Runs}
 use Rattle.run.specs.Held.{openingOf, openRefuses, openedOn}
 use Rattle.run.proofs.TextLaws.{puts-then}
 
 -- ---- the line of a call, by the code's answer
 
-start-line : (a : Start) (t : Step) (beat : ℕ) → startReply a ≡ t .answer .reply → ascii "begin " ++ (decimal beat ++ startText a) ≡ lineOf (begin beat) t
+start-line : (a : Start) (t : Step) (beat : ℕ) → startReply a ≡ t .answer .reply
+    → ascii "begin " ++ (decimal beat ++ startText a) ≡ lineOf (begin beat) t
 unfolding lineFor replyText startText endText
 start-line starts.Done t beat e = rw (← e, start-done) (sym (append-assoc (ascii "begin ") (decimal beat) (ascii " ok\n")))
 start-line (starts.Refused k) t beat e =
@@ -52,7 +56,8 @@ taken-line takings.Second t bytes e = rw (← e, taken-second)
 taken-line takings.Known t bytes e = rw (← e, taken-known)
 taken-line (takings.Refused k) t bytes e = rw (← e, taken-refused k)
 
-stand-end : (xs : List ℕ) (d : ℕ) (parted : Bool) → xs ++ standText d parted ≡ (xs ++ (ascii " " ++ (decimal d ++ markText parted))) ++ ascii "\n"
+stand-end : (xs : List ℕ) (d : ℕ) (parted : Bool)
+    → xs ++ standText d parted ≡ (xs ++ (ascii " " ++ (decimal d ++ markText parted))) ++ ascii "\n"
 unfolding standText
 stand-end xs d parted = simp append-assoc
 
@@ -124,7 +129,8 @@ module _ (s : List ℕ) (i a : ℕ) (x : State) (b : Bench) (ns cs : List ℕ) w
   act-gives r u v g = rw (call-act s i a u v) g
 
 -- an act, whatever its body
-pub acted-gives : (s : List ℕ) (a : ℕ) (x : State) (b : Bench) (ns cs : List ℕ) (r : Made) (o : Offer) (l out : List ℕ) → o ≡ offerAt s a → length l ≡ mostBytes
+pub acted-gives : (s : List ℕ) (a : ℕ) (x : State) (b : Bench) (ns cs : List ℕ) (r : Made) (o : Offer) (l out : List ℕ) → o ≡ offerAt s a
+    → length l ≡ mostBytes
     → ActGives (actOf x (record { name = o .name; count = o .count }) (o .priority) l) r b ns cs out
     → EventGives (act (offeredAt s a) (priorityAt s a) freshBuffer) x (answers.Acted r) b ns cs
 unfolding answerText offerAt
@@ -140,7 +146,8 @@ acted-gives s a x b ns cs r o l out w n g =
         nameList = g .nameList ∙ ap (λ (y : State). y .lent .names) h;
         countList = g .countList ∙ ap (λ (y : State). y .lent .counts) h;
       };
-      line = rw held (acted-line r (actOf x block (o .priority) freshBuffer) block (o .priority) freshBuffer out (g .answered ∙ same-reply x block (o .priority) l freshBuffer e));
+      line = rw held (acted-line r (actOf x block (o .priority) freshBuffer) block (o .priority) freshBuffer out
+          (g .answered ∙ same-reply x block (o .priority) l freshBuffer e));
     })
 
 -- ---- what Open gave
@@ -166,7 +173,8 @@ module _ (s : List ℕ) (l : Lent) (r : Start) (b : Bench) (ns cs : List ℕ) (g
 -- into the lent buffer
 module _ (s before : List ℕ) where
   pub text-scant : length before < mostRoll → WritesText s before 0 before
-  text-scant h = record { answered = rw (lt-ltb (length before) mostRoll h); fits = omega arith; buffer = rw (lt-ltb (length before) mostRoll h) }
+  text-scant h = record
+      { answered = rw (lt-ltb (length before) mostRoll h); fits = omega arith; buffer = rw (lt-ltb (length before) mostRoll h) }
 
   module _ (room : mostRoll ≤ length before) (v : Bool) (t : v ≡ misshapen s) (q : ℕ) (after : List ℕ) where
     text-is : Puts (textOf s) 0 before q after → q ≤ mostRoll → WritesText s before q after
@@ -186,7 +194,8 @@ module _ (s before : List ℕ) where
       unfolding textOf openedText
       text-shut g f = text-is (rw (← t, e, is-not (isDone (openingOf s freshLists .reply)) false (sym u ∙ g)) f) (omega (arith, f .place))
 
-      pub text-whole : w ≡ false → (b : Bench) → b ≡ openingOf s freshLists .bench → (p : ℕ) (m : List ℕ) → Puts (firstLine (ownOf s) (benchesOf s)) 0 before p m
+      pub text-whole : w ≡ false → (b : Bench) → b ≡ openingOf s freshLists .bench → (p : ℕ) (m : List ℕ)
+          → Puts (firstLine (ownOf s) (benchesOf s)) 0 before p m
           → (k : ℕ) → k ≡ eventsOf s → (c : Bench) (ns cs : List ℕ)
           → Runs true s k (heldWith b (freshLists .names) (freshLists .counts)) p m c q ns cs after → WritesText s before q after
       unfolding textOf openedText
@@ -194,7 +203,8 @@ module _ (s before : List ℕ) where
           let lines : Puts (linesOf (heldWith b (freshLists .names) (freshLists .counts)) (callsOf s)) p m q after = rw n at (ran .lines) in
           text-is
           (rw (← t, e, is-not (isDone (openingOf s freshLists .reply)) true (sym u ∙ g))
-          (puts-then (firstLine (ownOf s) (benchesOf s)) (linesOf (openedOn s freshLists) (callsOf s)) 0 before p m q after h (rw o at lines)))
+          (puts-then (firstLine (ownOf s) (benchesOf s)) (linesOf (openedOn s freshLists) (callsOf s)) 0 before p m q after h
+          (rw o at lines)))
           (ran .short refl)
 
 -- so an answer of 0 says that the buffer is too short, and nothing else

@@ -18,13 +18,15 @@ use Rattle.demand.specs.Demand.{byValue, runs}
 use Rattle.demand.specs.TheBench.{theBench}
 use Rattle.run.specs.Roll.{mostRoll, mostEvents, eventsOf, lengthAt, bodiesPlace, misfits, callAt, callsFrom}
 use Rattle.run.specs.RollText.{lineOf, stepOf, linesOf}
-use Rattle.run.specs.RollSteps.{lineRoom, answerText, Puts, Remains, EventGives, Shaped, Lies, told, LineFits, LineEnds, LinesFit, Runs, Ahead}
+use Rattle.run.specs.RollSteps.{lineRoom, answerText, Puts, Remains, EventGives, Shaped, Lies, told, LineFits, LineEnds, LinesFit}
+use Rattle.run.specs.RollSteps.{Runs, Ahead}
 use Rattle.run.specs.Held.{heldAfter, firstCalls, bodyFrom}
 use Rattle.run.proofs.RollForm.{lies}
 use Rattle.run.proofs.TextLaws.{puts-none}
 
 -- event i of the first k, in a roll of the right form with e events
-pub lies-within : (s : List ℕ) (i a e : ℕ) → misfits s i a (e - i) ≡ false → (k : ℕ) → i < k → k ≤ e → e ≡ eventsOf s → Shaped s → Lies s i a
+pub lies-within : (s : List ℕ) (i a e : ℕ) → misfits s i a (e - i) ≡ false → (k : ℕ) → i < k → k ≤ e → e ≡ eventsOf s → Shaped s
+    → Lies s i a
 lies-within s i a e inv k h r q f = lies s i a e q f inv (omega arith)
 
 -- ---- room for the lines
@@ -79,7 +81,8 @@ held-step : (x : State) (c : Call) (cs : List Call) → heldAfter x (c ∷ cs) �
 unfolding heldAfter
 held-step x c cs = refl
 
-remains-next : (z : List ℕ) (r : ℕ) (l : List ℕ) (p : ℕ) (xs ys : List ℕ) (q : ℕ) (m : List ℕ) → Remains z r l p (xs ++ ys) → Puts xs p l q m → Remains z r m q ys
+remains-next : (z : List ℕ) (r : ℕ) (l : List ℕ) (p : ℕ) (xs ys : List ℕ) (q : ℕ) (m : List ℕ) → Remains z r l p (xs ++ ys)
+    → Puts xs p l q m → Remains z r m q ys
 remains-next z r l p xs ys q m f g = record {
   place = f .place ∙ (rw length-append (omega (arith, g .place)));
   whole = f .whole ∙ put-append l p xs ys ∙ rw (g .text, g .place);
@@ -89,7 +92,8 @@ pub leaves-state : (y : State) (b : Bench) (ns cs : List ℕ) → Leaves (coreOf
 leaves-state y b ns cs f = rw (f .bench, f .nameList, f .countList)
 
 -- nothing is left to write
-remains-none : (xs : List ℕ) (at : ℕ) (before text : List ℕ) (p : ℕ) (prints : Bool) → Remains (put before at xs) (at + length xs) text p (told prints []) → Puts xs at before p text
+remains-none : (xs : List ℕ) (at : ℕ) (before text : List ℕ) (p : ℕ) (prints : Bool)
+    → Remains (put before at xs) (at + length xs) text p (told prints []) → Puts xs at before p text
 remains-none xs at before text p true f = record { place = omega (arith, f .place); text = sym (f .whole ∙ put-nil text p) }
 remains-none xs at before text p false f = record { place = omega (arith, f .place); text = sym (f .whole ∙ put-nil text p) }
 
@@ -99,8 +103,10 @@ module _ (prints : Bool) (s : List ℕ) (k : ℕ) (x : State) (at : ℕ) (before
       let n : k - 0 ≡ k = omega arith in
       rw q (record { held = rw n; lines = rw n (record { place = refl; whole = refl }) })
 
-  module _ (i a : ℕ) (b : Bench) (ns cs : List ℕ) (p : ℕ) (text : List ℕ) (left : Ahead prints s k x at before i a (heldWith b ns cs) p text) where
-    pub ahead-end : (room : LinesFit prints i p text) (e : ℕ) → k ≤ i → i ≤ k → k ≤ e → e ≤ mostEvents → Runs prints s k x at before b p ns cs text
+  module _ (i a : ℕ) (b : Bench) (ns cs : List ℕ) (p : ℕ) (text : List ℕ)
+      (left : Ahead prints s k x at before i a (heldWith b ns cs) p text) where
+    pub ahead-end : (room : LinesFit prints i p text) (e : ℕ) → k ≤ i → i ≤ k → k ≤ e → e ≤ mostEvents
+        → Runs prints s k x at before b p ns cs text
     unfolding heldAfter linesOf callsFrom
     ahead-end room e h l f few =
         let n : k - i ≡ 0 = omega arith in
@@ -112,7 +118,8 @@ module _ (prints : Bool) (s : List ℕ) (k : ℕ) (x : State) (at : ℕ) (before
           short = λ u. let w = room .low u in omega arith;
         }
 
-    pub ahead-next : i < k → (r : Answered) (c : Bench) (ns′ cs′ : List ℕ) → EventGives (callAt s i a) (heldWith b ns cs) r c ns′ cs′ → (q : ℕ) (m : List ℕ)
+    pub ahead-next : i < k → (r : Answered) (c : Bench) (ns′ cs′ : List ℕ) → EventGives (callAt s i a) (heldWith b ns cs) r c ns′ cs′
+        → (q : ℕ) (m : List ℕ)
         → Puts (told prints (answerText (c .decided) (isYes (c .parted)) r)) p text q m → (w : ℕ) → w ≡ lengthAt s i
         → Ahead prints s k x at before (i + 1) (a + w) (heldWith c ns′ cs′) q m
     ahead-next more r c ns′ cs′ g q m f w long =
@@ -122,16 +129,19 @@ module _ (prints : Bool) (s : List ℕ) (k : ℕ) (x : State) (at : ℕ) (before
         let y = heldWith b ns cs in
         let z = stepOf y call .held in
         let here : callsFrom s i a (k - i) ≡ call ∷ rest = rw (calls-step s i a (k - i) (omega arith), n) in
-        let whole : told prints (linesOf y (callsFrom s i a (k - i))) ≡ told prints (lineOf call (stepOf y call)) ++ told prints (linesOf z rest) =
+        let whole : told prints (linesOf y (callsFrom s i a (k - i))) ≡ told prints (lineOf call (stepOf y call)) ++ told prints
+        (linesOf z rest) =
         rw (here, lines-step y call rest) (told-append prints (lineOf call (stepOf y call)) (linesOf z rest)) in
         rw (long, leaves-state z c ns′ cs′ (g .leaves))
         (record {
           held = left .held ∙ ap (heldAfter y) here ∙ held-step y call rest;
-          lines = remains-next _ _ text p (told prints (lineOf call (stepOf y call))) (told prints (linesOf z rest)) q m (rw whole at (left .lines)) (rw (g .line) at f);
+          lines = remains-next _ _ text p (told prints (lineOf call (stepOf y call))) (told prints (linesOf z rest)) q m
+              (rw whole at (left .lines)) (rw (g .line) at f);
         })
 
 -- no lines were asked for: nothing is written
-pub silent : (s : List ℕ) (k : ℕ) (x : State) (before : List ℕ) (b : Bench) (r : ℕ) (ns cs after : List ℕ) → Runs false s k x 0 before b r ns cs after → after ≡ before
+pub silent : (s : List ℕ) (k : ℕ) (x : State) (before : List ℕ) (b : Bench) (r : ℕ) (ns cs after : List ℕ)
+    → Runs false s k x 0 before b r ns cs after → after ≡ before
 silent s k x before b r ns cs after f = f .lines .text ∙ put-nil before 0
 
 -- ---- where a body starts

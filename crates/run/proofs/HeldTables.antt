@@ -24,7 +24,8 @@ use Rattle.agreement.specs.Tally.{supportersOf}
 use Rattle.agreement.specs.declared.Grade.the-variants.{Longest}
 use Rattle.bench.specs.Acts.{propose, vote, makes}
 use Rattle.bench.specs.Record.{agreementOf, proposalsOf, withAgreement, anyPlace, beyondAgreement, beyondProposals, beyond}
-use Rattle.bench.specs.ByRecord.{openOf, beginOf, keptAgreement, keptProposals, receiveOf, actOf, actedOf, usedOf, settled, snappedBy, changed, fileMessage}
+use Rattle.bench.specs.ByRecord.{openOf, beginOf, keptAgreement, keptProposals, receiveOf, actOf, actedOf, usedOf, settled, snappedBy}
+use Rattle.bench.specs.ByRecord.{changed, fileMessage}
 use Rattle.bench.specs.Support.{agreementBefore}
 use Rattle.run.specs.Roll.{freshBuffer, rightBody, wrongMark, misfits, misshapen, callAt, callsFrom}
 use Rattle.run.specs.RollText.{freshLists}
@@ -45,12 +46,16 @@ abbrev vote-of : ℕ → Option Meaning
 vote-of v = some (logMessage (record { sender = 0; view = v; log = found }))
 
 -- the acts of beats 0, 1, 2, 5 and 6; a begin; and past the last event
-pub sample-made : map (λ (k : ℕ). madeOf sampleRoll k freshBuffer) (1 ∷ 3 ∷ 5 ∷ 11 ∷ 13 ∷ 10 ∷ 14 ∷ []) ≡ proposal ∷ vote-of 0 ∷ none ∷ vote-of 1 ∷ none ∷ none ∷ none ∷ []
+pub sample-made : map (λ (k : ℕ). madeOf sampleRoll k freshBuffer)
+    (1 ∷ 3 ∷ 5 ∷ 11 ∷ 13 ∷ 10 ∷ 14 ∷ []) ≡ proposal ∷ vote-of 0 ∷ none ∷ vote-of 1 ∷ none ∷ none ∷ none ∷ []
 unfolding
     madeOf madeOn noAct heldAfter bodyFrom misshapen misfits wrongMark rightBody callAt callsFrom numberIn openOf
-    beginOf receiveOf judgedBy firstFailure malformed meaningIn choice.anyOf actOf actedOf changed snappedBy settled usedOf fileMessage keptAgreement keptProposals agreementOf
-    proposalsOf withAgreement anyPlace beyondAgreement beyondProposals beyond propose vote makes voteAmong keptProposal fileProposalOf bestOf gradeAmong
-    fileOf overlong maySupport supports hasGrade under prefixes candidates reading.longer longestOf longest weigh member adding removing logAt messageBytes
+    beginOf receiveOf judgedBy firstFailure malformed meaningIn choice.anyOf actOf actedOf changed snappedBy settled usedOf fileMessage
+    keptAgreement keptProposals agreementOf
+    proposalsOf withAgreement anyPlace beyondAgreement beyondProposals beyond propose vote makes voteAmong keptProposal fileProposalOf
+    bestOf gradeAmong
+    fileOf overlong maySupport supports hasGrade under prefixes candidates reading.longer longestOf longest weigh member adding removing
+    logAt messageBytes
     bytesOf part put numberAt numbersAt bytesFor bytesForEach isPrefix sameLog inStep namesOf countsOf
 sample-made = refl
 
@@ -75,9 +80,12 @@ reading-then = 1 ∷ 0 ∷ 1 ∷ 1 ∷ 1 ∷ []
 pub sample-page : Shows (heldAt sampleRoll freshLists 13) (replicate 337 0) (slot 0 1 alone ++ (slot 1 0 nobody ++ reading-then))
 unfolding
     heldAfter callAt callsFrom numberIn openOf
-    beginOf receiveOf judgedBy firstFailure malformed meaningIn choice.anyOf actOf actedOf changed snappedBy settled usedOf fileMessage keptAgreement keptProposals agreementOf
-    proposalsOf withAgreement anyPlace beyondAgreement beyondProposals beyond propose vote makes voteAmong keptProposal fileProposalOf bestOf gradeAmong
-    fileOf overlong maySupport supports hasGrade under prefixes candidates reading.longer longestOf longest weigh member adding removing logAt messageBytes
+    beginOf receiveOf judgedBy firstFailure malformed meaningIn choice.anyOf actOf actedOf changed snappedBy settled usedOf fileMessage
+    keptAgreement keptProposals agreementOf
+    proposalsOf withAgreement anyPlace beyondAgreement beyondProposals beyond propose vote makes voteAmong keptProposal fileProposalOf
+    bestOf gradeAmong
+    fileOf overlong maySupport supports hasGrade under prefixes candidates reading.longer longestOf longest weigh member adding removing
+    logAt messageBytes
     bytesOf part put numberAt numbersAt bytesFor bytesForEach isPrefix sameLog inStep namesOf countsOf
     flagsFrom headBytes setsBytes slotBytes readBytes pageBytes agreementBefore supportersOf
 sample-page = record {

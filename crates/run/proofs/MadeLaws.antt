@@ -82,7 +82,8 @@ made-same (took w) = refl
 made-same (acted m) = refl
 
 module _ (x : State) (block : Block) (priority : ℕ) (out : List ℕ) where
-  made-fits : (r : Reply) → actOf x block priority out .answer .reply ≡ r → madeLength (madeBy r) ≤ length (actOf x block priority out .answer .out)
+  made-fits : (r : Reply) → actOf x block priority out .answer .reply ≡ r
+      → madeLength (madeBy r) ≤ length (actOf x block priority out .answer .out)
   made-fits (refused number) e = omega arith
   made-fits done e = omega arith
   made-fits (took w) e = omega arith
@@ -92,17 +93,21 @@ module _ (x : State) (block : Block) (priority : ℕ) (out : List ℕ) where
       let n = length-append (bytesOf m) (drop (length (bytesOf m)) out) in
       omega arith
 
-  act-gives : (r : Made) (b : Bench) (ns cs after : List ℕ) (n : ℕ) → ActGives (actOf x block priority out) r b ns cs after → n ≡ lengthFor r
+  act-gives : (r : Made) (b : Bench) (ns cs after : List ℕ) (n : ℕ) → ActGives (actOf x block priority out) r b ns cs after
+      → n ≡ lengthFor r
       → GivesMade (madeBy (actOf x block priority out .answer .reply)) out n after
   act-gives r b ns cs after n g e =
-      let a : n ≡ madeLength (madeBy (actOf x block priority out .answer .reply)) = e ∙ length-answer after r ∙ ap (λ (p : Reply). madeLength (madeBy p)) (g .answered) in
+      let a : n ≡ madeLength (madeBy (actOf x block priority out .answer .reply)) =
+      e ∙ length-answer after r ∙ ap (λ (p : Reply). madeLength (madeBy p)) (g .answered) in
       record {
         answered = a;
         fits = let f = made-fits (actOf x block priority out .answer .reply) refl in let l = ap length (g .buffer) in omega arith;
-        buffer = g .buffer ∙ act-out x block priority out ∙ ap (λ (o : Option Meaning). outAfter o out) (made-same (actOf x block priority out .answer .reply));
+        buffer = g .buffer ∙ act-out x block priority out
+            ∙ ap (λ (o : Option Meaning). outAfter o out) (made-same (actOf x block priority out .answer .reply));
       }
 
-pub act-makes : (s : List ℕ) (a : ℕ) (x : State) (out : List ℕ) (o : Offer) (r : Made) (b : Bench) (ns cs after : List ℕ) (n : ℕ) → o ≡ offerAt s a
+pub act-makes : (s : List ℕ) (a : ℕ) (x : State) (out : List ℕ) (o : Offer) (r : Made) (b : Bench) (ns cs after : List ℕ) (n : ℕ)
+    → o ≡ offerAt s a
     → ActGives (actOf x (record { name = o .name; count = o .count }) (o .priority) out) r b ns cs after → n ≡ lengthFor r
     → GivesMade (madeBy (actOf x (offeredAt s a) (priorityAt s a) out .answer .reply)) out n after
 unfolding offerAt
@@ -118,7 +123,8 @@ made-as-said x s k out e h =
 -- ---- the calls before it
 
 made-after : (s : List ℕ) (l : Lent) (k : ℕ) (out : List ℕ) (at : ℕ) → at ≡ bodyPlace s k → (o : Bench) → o ≡ openingOf s l .bench
-    → (b : Bench) (ns cs : List ℕ) → Leaves (coreOf (heldAfter (heldWith o (l .names) (l .counts)) (firstCalls s k))) b ns cs → (n : ℕ) (after : List ℕ)
+    → (b : Bench) (ns cs : List ℕ) → Leaves (coreOf (heldAfter (heldWith o (l .names) (l .counts)) (firstCalls s k))) b ns cs
+    → (n : ℕ) (after : List ℕ)
     → GivesMade (madeBy (actOf (heldWith b ns cs) (offeredAt s at) (priorityAt s at) out .answer .reply)) out n after
     → GivesMade (madeBy (actAfter (openedOn s l) s k out .answer .reply)) out n after
 made-after s l k out at p o e b ns cs f n after g =
@@ -145,7 +151,8 @@ picks false true c x y = refl
 picks false false c x y = refl
 
 module _ (s : List ℕ) (k : ℕ) (v : Bool) (t : v ≡ noneMade s k freshLists) where
-  made-is : (out : List ℕ) → madeOf s k out ≡ pick (noneMade s k freshLists) none (madeBy (actAfter (openedOn s freshLists) s k out .answer .reply))
+  made-is : (out : List ℕ)
+      → madeOf s k out ≡ pick (noneMade s k freshLists) none (madeBy (actAfter (openedOn s freshLists) s k out .answer .reply))
   unfolding madeOf madeOn
   made-is out =
       picks (misshapen s) (noAct s k) (openRefuses s freshLists) none (madeBy (actAfter (openedOn s freshLists) s k out .answer .reply))
@@ -160,13 +167,15 @@ module _ (s : List ℕ) (k : ℕ) (v : Bool) (t : v ≡ noneMade s k freshLists)
     pub made-event : k ≤ eventsOf s
     unfolding noAct
     made-event =
-        let act = or-false (noAct s k) (openRefuses s freshLists) (or-false (misshapen s) (noAct s k || openRefuses s freshLists) (sym t ∙ e) .1) .0 in
+        let act = or-false (noAct s k) (openRefuses s freshLists)
+        (or-false (misshapen s) (noAct s k || openRefuses s freshLists) (sym t ∙ e) .1) .0 in
         let n = leb-false (eventsOf s) k (or-false (leb (eventsOf s) k) (not (eqb (kindAt s k) actKind)) act .0) in
         omega arith
 
   pub made-whole : (out : List ℕ) → v ≡ false → (at : ℕ) → at ≡ bodyPlace s k → (o : Bench) → o ≡ openingOf s freshLists .bench
       → (b : Bench) (q : ℕ) (ns cs mid : List ℕ) → Runs false s k (heldWith o (freshLists .names) (freshLists .counts)) 0 out b q ns cs mid
-      → (n : ℕ) (after : List ℕ) → GivesMade (madeBy (actOf (heldWith b ns cs) (offeredAt s at) (priorityAt s at) mid .answer .reply)) mid n after
+      → (n : ℕ) (after : List ℕ)
+      → GivesMade (madeBy (actOf (heldWith b ns cs) (offeredAt s at) (priorityAt s at) mid .answer .reply)) mid n after
       → GivesMade (madeOf s k out) out n after
   made-whole out e at p o h b q ns cs mid f n after g =
       rw (made-is out, ← t, e)

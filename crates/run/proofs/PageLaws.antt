@@ -26,7 +26,8 @@ use Rattle.bench.specs.declared.Counted.{Counted}
 use Rattle.run.specs.Roll.{eventsOf, misshapen}
 use Rattle.run.specs.RollSteps.{Puts, Shaped, Few, Runs}
 use Rattle.run.specs.Held.{heldAfter, firstCalls, openingOf, openRefuses, heldAt}
-use Rattle.run.specs.Page.{flag, flagsFrom, setBytes, headBytes, setsBytes, slotBytes, gradeBytes, readBytes, pageBytes, pageLength, ReadsNow, GivesPage, scantPage, tooFew, noPage}
+use Rattle.run.specs.Page.{flag, flagsFrom, setBytes, headBytes, setsBytes, slotBytes, gradeBytes, readBytes, pageBytes, pageLength}
+use Rattle.run.specs.Page.{ReadsNow, GivesPage, scantPage, tooFew, noPage}
 use Rattle.run.proofs.TextLaws.{puts-then, puts-three}
 use Rattle.run.proofs.HeldLaws.{leaves-state, silent}
 use Rattle.run.proofs.RollForm.{shaped}
@@ -57,7 +58,8 @@ module _ (z l : List ℕ) (s : ℕ) (p i : ℕ) (e : z ≡ put l p (flagsFrom s 
   unfolding flagsFrom
   flags-end h = let n : 32 - i ≡ 0 = omega arith in sym (e ∙ rw n (put-nil l p))
 
-pub set-put : (before l : List ℕ) (s : ℕ) (at p i : ℕ) → put before at (setBytes s) ≡ put l p (flagsFrom s i (32 - i)) → p ≡ at + i → i ≤ 32 → 32 ≤ i
+pub set-put : (before l : List ℕ) (s : ℕ) (at p i : ℕ) → put before at (setBytes s) ≡ put l p (flagsFrom s i (32 - i)) → p ≡ at + i → i ≤ 32
+    → 32 ≤ i
     → Puts (setBytes s) at before p l
 set-put before l s at p i e q h k = record {
   place = let n = length-flags s 0 32 in omega arith;
@@ -73,7 +75,8 @@ module _ (z l row : List ℕ) (p i : ℕ) (e : z ≡ put l p (part row i (32 - i
   row-end : 32 ≤ i → l ≡ z
   row-end h = let n : 32 - i ≡ 0 = omega arith in sym (e ∙ rw (n, part-nil row i) (put-nil l p))
 
-pub row-put : (before l row : List ℕ) (at p i : ℕ) → put before at (part row 0 32) ≡ put l p (part row i (32 - i)) → p ≡ at + i → i ≤ 32 → 32 ≤ i
+pub row-put : (before l row : List ℕ) (at p i : ℕ) → put before at (part row 0 32) ≡ put l p (part row i (32 - i)) → p ≡ at + i → i ≤ 32
+    → 32 ≤ i
     → Puts (part row 0 32) at before p l
 row-put before l row at p i e q h k = record {
   place = let n = length-part row 0 32 in omega arith;
@@ -93,13 +96,16 @@ module _ (g : Marks) (at : ℕ) (l : List ℕ) (p : ℕ) (m : List ℕ) where
     pub slot-put : (lengths : List ℕ) → Puts (headBytes (agreementFrom g [])) at l p m → Puts (part lengths 0 32) p m q o
         → Puts (setsBytes (agreementFrom g [])) q o r u → Puts (slotBytes (agreementFrom g lengths)) at l r u
     unfolding slotBytes headBytes setsBytes
-    slot-put lengths a b c = puts-three (headBytes (agreementFrom g [])) (part lengths 0 32) (setsBytes (agreementFrom g [])) at l p m q o r u a b c
+    slot-put lengths a b c =
+        puts-three (headBytes (agreementFrom g [])) (part lengths 0 32) (setsBytes (agreementFrom g [])) at l p m q o r u a b c
 
     pub sets-put : (r′ : ℕ) (u′ : List ℕ) → Puts (setBytes (g .voters)) at l p m → Puts (setBytes (g .equivocators)) p m q o
-        → Puts (setBytes (g .one .senders)) q o r u → Puts (setBytes (g .two .senders)) r u r′ u′ → Puts (setsBytes (agreementFrom g [])) at l r′ u′
+        → Puts (setBytes (g .one .senders)) q o r u → Puts (setBytes (g .two .senders)) r u r′ u′
+        → Puts (setsBytes (agreementFrom g [])) at l r′ u′
     unfolding setsBytes
     sets-put r′ u′ a b c d =
-        puts-then (setBytes (g .voters)) (setBytes (g .equivocators) ++ (setBytes (g .one .senders) ++ setBytes (g .two .senders))) at l p m r′ u′ a
+        puts-then (setBytes (g .voters))
+        (setBytes (g .equivocators) ++ (setBytes (g .one .senders) ++ setBytes (g .two .senders))) at l p m r′ u′ a
         (puts-three (setBytes (g .equivocators)) (setBytes (g .one .senders)) (setBytes (g .two .senders)) p m q o r u r′ u′ b c d)
 
 -- ---- what is read
@@ -109,7 +115,8 @@ module _ (c : Counted) (at : ℕ) (l : List ℕ) (p : ℕ) (m : List ℕ) where
   unfolding readBytes
   read-nothing e h = rw e h
 
-  pub read-longest : (i k : ℕ) → c .grade ≡ Longest i k → Puts (1 ∷ i ∷ k ∷ c .supporters ∷ c .senders ∷ []) at l p m → Puts (readBytes c) at l p m
+  pub read-longest : (i k : ℕ) → c .grade ≡ Longest i k → Puts (1 ∷ i ∷ k ∷ c .supporters ∷ c .senders ∷ []) at l p m
+      → Puts (readBytes c) at l p m
   unfolding readBytes
   read-longest i k e h = rw e h
 
@@ -118,7 +125,8 @@ counts-few x v a c g = record { supporters = g .fewSupporters; senders = g .fewS
 
 -- ---- the page
 
-pub page-put : (b : Bench) (c : Counted) (at : ℕ) (l : List ℕ) (p : ℕ) (m : List ℕ) (q : ℕ) (o : List ℕ) (r : ℕ) (u : List ℕ) → Puts (slotBytes (b .even)) at l p m
+pub page-put : (b : Bench) (c : Counted) (at : ℕ) (l : List ℕ) (p : ℕ) (m : List ℕ) (q : ℕ) (o : List ℕ) (r : ℕ) (u : List ℕ)
+    → Puts (slotBytes (b .even)) at l p m
     → Puts (slotBytes (b .odd)) p m q o → Puts (readBytes c) q o r u → Puts (pageBytes b c) at l r u
 unfolding pageBytes
 page-put b c at l p m q o r u f g h = puts-three (slotBytes (b .even)) (slotBytes (b .odd)) (readBytes c) at l p m q o r u f g h
@@ -138,8 +146,10 @@ page-length b c = simp (length-append, slot-length, grade-length)
 -- ---- the calls before it
 
 page-given : (s : List ℕ) (l : Lent) (k : ℕ) (o : Bench) → o ≡ openingOf s l .bench → (b : Bench) (ns cs : List ℕ)
-    → Leaves (coreOf (heldAfter (heldWith o (l .names) (l .counts)) (firstCalls s k))) b ns cs → (c : Counted) → ReadsNow (heldWith b ns cs) c
-    → (before : List ℕ) (r : ℕ) (after : List ℕ) → Puts (pageBytes b c) 0 before r after → GivesPage false (heldAt s l k) l before r ns cs after
+    → Leaves (coreOf (heldAfter (heldWith o (l .names) (l .counts)) (firstCalls s k))) b ns cs → (c : Counted)
+    → ReadsNow (heldWith b ns cs) c
+    → (before : List ℕ) (r : ℕ) (after : List ℕ) → Puts (pageBytes b c) 0 before r after
+    → GivesPage false (heldAt s l k) l before r ns cs after
 page-given s l k o e b ns cs f c g before r after p =
     let h : Leaves (coreOf (heldAt s l k)) b ns cs = rw e at f in
     record {
@@ -205,7 +215,8 @@ module _ (s : List ℕ) (k : ℕ) (l : Lent) (before : List ℕ) where
 
     pub page-whole : v ≡ false → (o : Bench) → o ≡ openingOf s l .bench → (b : Bench) (q : ℕ) (ns cs mid : List ℕ)
         → Runs false s k (heldWith o (l .names) (l .counts)) 0 before b q ns cs mid → (c : Counted) → ReadsNow (heldWith b ns cs) c
-        → (r : ℕ) (after : List ℕ) → Puts (pageBytes b c) 0 mid r after → GivesPage (noPage s k l before) (heldAt s l k) l before r ns cs after
+        → (r : ℕ) (after : List ℕ) → Puts (pageBytes b c) 0 mid r after
+        → GivesPage (noPage s k l before) (heldAt s l k) l before r ns cs after
     page-whole e o h b q ns cs mid f c g r after p =
         rw (← t, e)
         (page-given s l k o h b ns cs (f .leaves) c g before r after

@@ -11,13 +11,15 @@ use Rattle.message.specs.Numbers.{numberAt}
 use Rattle.message.proofs.NumberLaws.{number-inside}
 use Rattle.message.proofs.LoopLaws.{two-bytes}
 use Rattle.message.proofs.TestLaws.{either, or-false}
-use Rattle.run.specs.Roll.{mostRoll, mostEvents, sizesLength, markLength, eventsOf, markPlace, kindAt, zeroAt, lengthAt, bodiesPlace, rightBody, wrongMark, misfits, misshapen}
+use Rattle.run.specs.Roll.{mostRoll, mostEvents, sizesLength, markLength, eventsOf, markPlace, kindAt, zeroAt, lengthAt, bodiesPlace}
+use Rattle.run.specs.Roll.{rightBody, wrongMark, misfits, misshapen}
 use Rattle.run.specs.RollSteps.{Marked, MarkIs, Shaped, Lies}
 
 -- ---- a mark as one number
 
 pub mark-is : (s : List ℕ) (i x y u v : ℕ) → Marked s i → (x ≡ kindAt s i) × (x < 256) → (y ≡ zeroAt s i) × (y < 256)
-    → (u ≡ getD s (markPlace i + 2) 0) × (u < 256) → (v ≡ getD s (markPlace i + 3) 0) × (v < 256) → MarkIs s i (x + y * 256 + (u + v * 256) * 65536)
+    → (u ≡ getD s (markPlace i + 2) 0) × (u < 256) → (v ≡ getD s (markPlace i + 3) 0) × (v < 256)
+    → MarkIs s i (x + y * 256 + (u + v * 256) * 65536)
 mark-is s i x y u v h (e, a) (f, b) (g, c) (j, d) =
     let n : markPlace i + 2 + 1 ≡ markPlace i + 3 = omega arith in
     let t = two-bytes s (markPlace i + 2) u v g (j ∙ ap (λ (k : ℕ). getD s k 0) (sym n)) in
@@ -70,13 +72,15 @@ module _ (z b : Bool) (s : List ℕ) (i a e : ℕ) (inv : z ≡ (b || misfits s 
 
 -- bodies that start past the roll's end do not end where it ends
 at-end : (a n : ℕ) → not (eqb a n) ≡ false → a ≤ n
-at-end a n e = either (eqb a n) (λ yes. let q = eqb-true a n yes in omega arith) (λ no. let f : true ≡ false = rw no at e in let z : _≡_ {A = ℕ} 0 1 = cc in omega arith)
+at-end a n e = either (eqb a n) (λ yes. let q = eqb-true a n yes in omega arith)
+    (λ no. let f : true ≡ false = rw no at e in let z : _≡_ {A = ℕ} 0 1 = cc in omega arith)
 
 places-grow : (s : List ℕ) (i a m : ℕ) → misfits s i a m ≡ false → a ≤ length s
 unfolding misfits
 places-grow s i a zero e = at-end a (length s) e
 places-grow s i a (suc m) e =
-    let r = places-grow s (i + 1) (a + lengthAt s i) m (or-false (wrongMark s i) (misfits s (i + 1) (a + lengthAt s i) m) e .1) in omega arith
+    let r = places-grow s (i + 1) (a + lengthAt s i) m (or-false (wrongMark s i) (misfits s (i + 1) (a + lengthAt s i) m) e .1) in
+    omega arith
 
 -- ---- the whole form
 
@@ -89,7 +93,8 @@ module _ (s : List ℕ) where
   unfolding misshapen
   shaped v t f =
       let e = sym t ∙ f in
-      let parts = or-false (ltb (length s) sizesLength || ltb mostRoll (length s)) (ltb mostEvents (eventsOf s) || misfits s 0 (bodiesPlace s) (eventsOf s)) e in
+      let parts = or-false (ltb (length s) sizesLength || ltb mostRoll (length s))
+      (ltb mostEvents (eventsOf s) || misfits s 0 (bodiesPlace s) (eventsOf s)) e in
       let sizes = or-false (ltb (length s) sizesLength) (ltb mostRoll (length s)) (parts .0) in
       let events = or-false (ltb mostEvents (eventsOf s)) (misfits s 0 (bodiesPlace s) (eventsOf s)) (parts .1) in
       record {
@@ -106,7 +111,8 @@ module _ (s : List ℕ) where
 
     pub shape-scant : e ≤ mostEvents → length s < sizesLength + markLength * e → true ≡ misshapen s
     shape-scant h k =
-        either (misshapen s) (λ yes. sym yes) (λ no. let f = places-grow s 0 (bodiesPlace s) (eventsOf s) (shaped (misshapen s) refl no .fit) in absurd (omega arith))
+        either (misshapen s) (λ yes. sym yes)
+        (λ no. let f = places-grow s 0 (bodiesPlace s) (eventsOf s) (shaped (misshapen s) refl no .fit) in absurd (omega arith))
 
     pub shape-is : (r : Bool) → e ≤ mostEvents → r ≡ misfits s 0 (bodiesPlace s) (eventsOf s) → r ≡ misshapen s
     unfolding misshapen

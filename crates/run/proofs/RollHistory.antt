@@ -1,5 +1,5 @@
--- The lines of a roll are those worked out from its calls: the answers by the rules, D and the mark by the decisions. So what the lent lists hold at
--- first shows nowhere. Assumes nothing.
+-- The lines of a roll are those worked out from its calls: the answers by the rules, D and the mark by the decisions. So what the lent
+-- lists hold at first shows nowhere. Assumes nothing.
 use Prim.Native.Nat.{ℕ, zero, suc, _+_, _^_, _<_}
 use native.Mathlib.Omega.{arith}
 use mathlib.Core.List.{List, [], _∷_, _++_}
@@ -21,7 +21,8 @@ use Rattle.bench.specs.History.{History, fresh, step, standIn}
 use Rattle.bench.specs.ByRecord.{openOf, standing}
 use Rattle.demand.specs.Demand.{byValue, OpenedAs}
 use Rattle.demand.specs.TheBench.{theBench}
-use Rattle.run.specs.Roll.{benchesOf, ownOf, eventsOf, bodiesPlace, misshapen, markPlace, kindAt, lengthAt, beginKind, receiveKind, callAt, callsFrom, callsOf}
+use Rattle.run.specs.Roll.{benchesOf, ownOf, eventsOf, bodiesPlace, misshapen, markPlace, kindAt, lengthAt, beginKind, receiveKind}
+use Rattle.run.specs.Roll.{callAt, callsFrom, callsOf}
 use Rattle.run.specs.RollText.{termsOf, stepOf, linesOf, linesBy, firstLine, isDone, openedText, freshLists, textOf}
 use Rattle.demand.proofs.TheDemand.{bench-simulates}
 
@@ -31,7 +32,8 @@ decided-length x s e =
     sym (length-at (x .lent .names) (x .lent .counts) decidedPlace (x .bench .decided)) ∙ ap (λ (t : Stand). length (t .log)) e
 
 module _ (T : Terms) (own : ℕ) where
-  lines-along : (x : State) (p : History) (cs : List Call) → bench-simulates .Rel (seatOf T own) x p → AllTyped cs → linesOf x cs ≡ linesBy (seatOf T own) p cs
+  lines-along : (x : State) (p : History) (cs : List Call) → bench-simulates .Rel (seatOf T own) x p → AllTyped cs
+      → linesOf x cs ≡ linesBy (seatOf T own) p cs
   unfolding linesOf linesBy
   lines-along x p [] r t = refl
   lines-along x p (c ∷ cs) r t =
@@ -44,10 +46,12 @@ module _ (T : Terms) (own : ℕ) where
       let l = lines-along y (step (seatOf T own) p c) cs k (t .1) in
       rw (a, d, m, l)
 
-  lines-worked-out : (x : State) (cs : List Call) → OpenedAs theBench T own x → AllTyped cs → linesOf x cs ≡ linesBy (seatOf T own) (fresh (seatOf T own)) cs
+  lines-worked-out : (x : State) (cs : List Call) → OpenedAs theBench T own x → AllTyped cs
+      → linesOf x cs ≡ linesBy (seatOf T own) (fresh (seatOf T own)) cs
   lines-worked-out x cs o t = lines-along x (fresh (seatOf T own)) cs (bench-simulates .opens T own x o) t
 
-  pub any-lists : (x y : State) (cs : List Call) → OpenedAs theBench T own x → OpenedAs theBench T own y → AllTyped cs → linesOf x cs ≡ linesOf y cs
+  pub any-lists : (x y : State) (cs : List Call) → OpenedAs theBench T own x → OpenedAs theBench T own y → AllTyped cs
+      → linesOf x cs ≡ linesOf y cs
   any-lists x y cs o q t = lines-worked-out x cs o t ∙ sym (lines-worked-out y cs q t)
 
 -- ---- of a whole roll
@@ -79,7 +83,13 @@ module _ (s : List ℕ) (bytes : AllBelow 256 s) where
       (λ e.
       either (eqb (kindAt s i) receiveKind)
       (λ f. rw (e, f) (take-below 256 (lengthAt s i) (drop a s) (omega arith) (drop-below 256 a s bytes), part-short))
-      (λ f. rw (e, f) (number-fits 8 a, number-fits 2 (a + 16), number-fits 8 (a + 8), zeros-below 256 mostBytes (omega arith), omega (arith, length-replicate {A = ℕ} mostBytes 0))))
+      (λ f. rw (e, f) (
+        number-fits 8 a,
+        number-fits 2 (a + 16),
+        number-fits 8 (a + 8),
+        zeros-below 256 mostBytes (omega arith),
+        omega (arith, length-replicate {A = ℕ} mostBytes 0),
+      )))
     where
       part-short : length (take (lengthAt s i) (drop a s)) < 2 ^ 64
       part-short = simp (length-take, length-drop) (omega (arith, number-fits 2 (markPlace i + 2)))
@@ -105,7 +115,14 @@ module _ (s : List ℕ) (bytes : AllBelow 256 s) where
       done-gives o d = ap (λ (r : Reply). record { reply = r; bench = o .bench }) (is-done (o .reply) d)
 
   pub text-worked-out : misshapen s ≡ false → isDone (openOf (benchesOf s) (ownOf s) freshLists .reply) ≡ true
-      → textOf s ≡ firstLine (ownOf s) (benchesOf s) ++ linesBy (seatOf (termsOf s) (ownOf s)) (fresh (seatOf (termsOf s) (ownOf s))) (callsOf s)
+      → textOf s ≡ firstLine (ownOf s) (benchesOf s) ++ linesBy (seatOf (termsOf s) (ownOf s)) (fresh (seatOf (termsOf s) (ownOf s)))
+      (callsOf s)
   unfolding textOf openedText
   text-worked-out e d =
-      rw (e, d, lines-worked-out (termsOf s) (ownOf s) (record { bench = openOf (benchesOf s) (ownOf s) freshLists .bench; lent = freshLists }) (callsOf s) (opened-so d) (calls-typed 0 (bodiesPlace s) (eventsOf s)))
+      rw (
+        e,
+        d,
+        lines-worked-out (termsOf s) (ownOf s)
+            (record { bench = openOf (benchesOf s) (ownOf s) freshLists .bench; lent = freshLists }) (callsOf s) (opened-so d)
+            (calls-typed 0 (bodiesPlace s) (eventsOf s)),
+      )

@@ -1,5 +1,5 @@
--- The roll in examples, computed (document 01, "The roll"): which bytes are a roll, what a line says, and the whole text of the sample; and two
--- causes of no roll that the examples leave out, as laws of every byte string. Assumes nothing.
+-- The roll in examples, computed (document 01, "The roll"): which bytes are a roll, what a line says, and the whole text of the sample; and
+-- two causes of no roll that the examples leave out, as laws of every byte string. Assumes nothing.
 use Prim.Native.Nat.{ℕ}
 use Prim.Native.String.{String}
 use mathlib.Core.Bool.{Bool, true, false}
@@ -36,7 +36,8 @@ use Rattle.bench.specs.Causes.{openCauses}
 use Rattle.bench.proofs.Refusals.{open-refused}
 use Rattle.run.specs.Roll.{mostRoll, sizesLength, benchesOf, ownOf, rightBody, wrongMark, misfits, misshapen, callAt, callsFrom}
 use Rattle.run.specs.RollText.{noRollText, freshLists, madeText, replyText, lineFor, linesOf, firstLine, openedText, textOf}
-use Rattle.bench.specs.ByRecord.{openOf, beginOf, keptAgreement, keptProposals, receiveOf, actOf, actedOf, usedOf, settled, snappedBy, changed, fileMessage}
+use Rattle.bench.specs.ByRecord.{openOf, beginOf, keptAgreement, keptProposals, receiveOf, actOf, actedOf, usedOf, settled, snappedBy}
+use Rattle.bench.specs.ByRecord.{changed, fileMessage}
 
 -- ---- which bytes are a roll
 
@@ -104,7 +105,9 @@ pick-alike false x = refl
 
 pub refused-no-roll : (s : List ℕ) → outOfRange (benchesOf s) (ownOf s) ≡ true → textOf s ≡ noRollText
 unfolding textOf openedText
-refused-no-roll s e = rw (open-refused (benchesOf s) (ownOf s) freshLists 7 (first-failure (openCauses (benchesOf s) (ownOf s) freshLists) 7 (inl (e, refl)))) (pick-alike (misshapen s) noRollText)
+refused-no-roll s e =
+    rw (open-refused (benchesOf s) (ownOf s) freshLists 7 (first-failure (openCauses (benchesOf s) (ownOf s) freshLists) 7 (inl (e, refl))))
+    (pick-alike (misshapen s) noRollText)
 
 -- ---- what a line says
 
@@ -176,9 +179,13 @@ sampleRoll = sized 14 (sampleMarks ++ sampleBodies)
 pub sample : textOf sampleRoll
     ≡ ascii "bench 0 of 1\nbegin 0 ok\nact proposal 1 0\nbegin 1 ok\nact log 1 0\nbegin 2 ok\nact none 0 0\nbegin 3 ok\nact none 0 0\nbegin 4 ok\nact none 0 0\nbegin 5 ok\nact log 1 0\nbegin 6 ok\nact none 0 1\n"
 unfolding
-    textOf openedText firstLine linesOf lineFor replyText madeText digits misshapen misfits wrongMark rightBody callAt callsFrom numberIn openOf
-    beginOf receiveOf judgedBy firstFailure malformed meaningIn choice.anyOf actOf actedOf changed snappedBy settled usedOf fileMessage keptAgreement keptProposals agreementOf
-    proposalsOf withAgreement anyPlace beyondAgreement beyondProposals beyond propose vote makes voteAmong keptProposal fileProposalOf bestOf gradeAmong
-    fileOf overlong maySupport supports hasGrade under prefixes candidates reading.longer longestOf longest weigh member adding removing logAt messageBytes
+    textOf openedText firstLine linesOf lineFor replyText madeText digits misshapen misfits wrongMark rightBody callAt callsFrom numberIn
+    openOf
+    beginOf receiveOf judgedBy firstFailure malformed meaningIn choice.anyOf actOf actedOf changed snappedBy settled usedOf fileMessage
+    keptAgreement keptProposals agreementOf
+    proposalsOf withAgreement anyPlace beyondAgreement beyondProposals beyond propose vote makes voteAmong keptProposal fileProposalOf
+    bestOf gradeAmong
+    fileOf overlong maySupport supports hasGrade under prefixes candidates reading.longer longestOf longest weigh member adding removing
+    logAt messageBytes
     bytesOf part put numberAt numbersAt bytesFor bytesForEach isPrefix sameLog inStep namesOf countsOf
 sample = refl

@@ -39,7 +39,8 @@ puts-then xs ys at l r m q o f g = record {
 }
 
 -- what is said of a case is said of an answer that is that case
-pub puts-by : {A : Type 0} (f : A → List ℕ) (a b : A) (at : ℕ) (l : List ℕ) (r : ℕ) (m : List ℕ) → a ≡ b → Puts (f b) at l r m → Puts (f a) at l r m
+pub puts-by : {A : Type 0} (f : A → List ℕ) (a b : A) (at : ℕ) (l : List ℕ) (r : ℕ) (m : List ℕ) → a ≡ b → Puts (f b) at l r m
+    → Puts (f a) at l r m
 puts-by f a b at l r m e p = rw e p
 
 pub puts-acted :
@@ -65,11 +66,13 @@ module _ (xs ys zs : List ℕ) (at : ℕ) (l : List ℕ) (p : ℕ) (m : List ℕ
   puts-three f g h = puts-then xs (ys ++ zs) at l p m r u f (puts-then ys zs p m q o r u g h)
 
 -- a word and its number, and then the rest
-pub puts-after : (xs ys zs : List ℕ) (at : ℕ) (l : List ℕ) (p : ℕ) (m : List ℕ) (r : ℕ) (u : List ℕ) → Puts (xs ++ ys) at l p m → Puts zs p m r u
+pub puts-after : (xs ys zs : List ℕ) (at : ℕ) (l : List ℕ) (p : ℕ) (m : List ℕ) (r : ℕ) (u : List ℕ) → Puts (xs ++ ys) at l p m
+    → Puts zs p m r u
     → Puts (xs ++ (ys ++ zs)) at l r u
 puts-after xs ys zs at l p m r u f g = rw (← append-assoc xs ys zs) (puts-then (xs ++ ys) zs at l p m r u f g)
 
-pub puts-first : (own n : ℕ) (l : List ℕ) (p : ℕ) (m : List ℕ) (q : ℕ) (o : List ℕ) (r : ℕ) (u : List ℕ) → Puts (ascii "bench " ++ decimal own) 0 l p m
+pub puts-first : (own n : ℕ) (l : List ℕ) (p : ℕ) (m : List ℕ) (q : ℕ) (o : List ℕ) (r : ℕ) (u : List ℕ)
+    → Puts (ascii "bench " ++ decimal own) 0 l p m
     → Puts (ascii " of " ++ decimal n) p m q o → Puts (ascii "\n") q o r u → Puts (firstLine own n) 0 l r u
 unfolding firstLine
 puts-first own n l p m q o r u f g h =
@@ -94,7 +97,9 @@ pub digit-one : (m x at : ℕ) (l : List ℕ) → 0 < m → x < 10 → Puts (dig
 digit-one m x at l n h = let e = digits-one m x n h in record { place = rw e; text = rw (e, put-cons, put-nil) }
 
 digits-two : (m x : ℕ) → 1 < m → 10 ≤ x → x < 100 → digits m x ≡ pairOf x
-digits-two m x h k l = digits-step m x (omega arith) k ∙ ap (λ (xs : List ℕ). xs ++ ((48 + x % 10) ∷ [])) (digits-one (m - 1) (x / 10) (omega arith) (omega arith))
+digits-two m x h k l =
+    digits-step m x (omega arith) k
+    ∙ ap (λ (xs : List ℕ). xs ++ ((48 + x % 10) ∷ [])) (digits-one (m - 1) (x / 10) (omega arith) (omega arith))
 
 digits-pair : (m n x : ℕ) → m ≡ n + 2 → 100 ≤ x → digits m x ≡ digits n (x / 100) ++ pairOf (x % 100)
 digits-pair m n x e h =
@@ -110,9 +115,11 @@ digits-pair m n x e h =
 pub pair-puts : (x at : ℕ) (l : List ℕ) → Puts (pairOf x) at l (at + 2) (set (set l at (48 + x / 10)) (at + 1) (48 + x % 10))
 pair-puts x at l = record { place = refl; text = rw (put-cons l at, put-cons, put-nil) }
 
-pub digits-are-two : (m x at : ℕ) (l : List ℕ) (r : ℕ) (o : List ℕ) → 1 < m → 10 ≤ x → x < 100 → Puts (pairOf x) at l r o → Puts (digits m x) at l r o
+pub digits-are-two : (m x at : ℕ) (l : List ℕ) (r : ℕ) (o : List ℕ) → 1 < m → 10 ≤ x → x < 100 → Puts (pairOf x) at l r o
+    → Puts (digits m x) at l r o
 digits-are-two m x at l r o h k g f = rw (digits-two m x h k g) f
 
-pub pair-more : (m n x at : ℕ) (l : List ℕ) (p : ℕ) (o : List ℕ) (r : ℕ) (u : List ℕ) → m ≡ n + 2 → 100 ≤ x → Puts (digits n (x / 100)) at l p o
+pub pair-more : (m n x at : ℕ) (l : List ℕ) (p : ℕ) (o : List ℕ) (r : ℕ) (u : List ℕ) → m ≡ n + 2 → 100 ≤ x
+    → Puts (digits n (x / 100)) at l p o
     → Puts (pairOf (x % 100)) p o r u → Puts (digits m x) at l r u
 pair-more m n x at l p o r u e h f g = rw (digits-pair m n x e h) (puts-then (digits n (x / 100)) (pairOf (x % 100)) at l p o r u f g)

@@ -1,5 +1,5 @@
--- The page of a roll: what its bench holds after the first calls, as bytes for a tool that shows it (document 01, "Counting in one agreement" and
--- "Calendar of acts"). Assumes nothing.
+-- The page of a roll: what its bench holds after the first calls, as bytes for a tool that shows it (document 01, "Counting in one
+-- agreement" and "Calendar of acts"). Assumes nothing.
 use Prim.Native.Nat.{ℕ, zero, suc, _+_}
 use mathlib.Core.Bool.{Bool, true, false, _||_}
 use mathlib.Core.List.{List, [], _∷_, _++_}
@@ -43,7 +43,8 @@ headBytes g = bytesFor 4 (g .marks .view) ++ (flag (isYes (g .marks .one .taken)
 -- V; E; snapshot one; snapshot two
 unfoldable pub setsBytes : Agreement → List ℕ
 setsBytes g =
-    setBytes (g .marks .voters) ++ (setBytes (g .marks .equivocators) ++ (setBytes (g .marks .one .senders) ++ setBytes (g .marks .two .senders)))
+    setBytes (g .marks .voters) ++
+    (setBytes (g .marks .equivocators) ++ (setBytes (g .marks .one .senders) ++ setBytes (g .marks .two .senders)))
 
 -- between them the blocks of each sender's log
 unfoldable pub slotBytes : Agreement → List ℕ
@@ -75,8 +76,8 @@ ReadsNow x c = SupportGives (coreOf x) (viewOf (beatOf (x .bench))) (actAt (plac
 
 -- ---- the promise
 
--- The page of what is held stands at the front of the buffer, and all else there is as it was. At whose place the log read stands is not fixed by the
--- rules: the log of that many blocks at that sender's place is the one used (`reads`).
+-- The page of what is held stands at the front of the buffer, and all else there is as it was. At whose place the log read stands is not
+-- fixed by the rules: the log of that many blocks at that sender's place is the one used (`reads`).
 pub record Shows (x : State) (before after : List ℕ) : Type 0 where
   pub count : Counted
   pub reads : ReadsNow x count

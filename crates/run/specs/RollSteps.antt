@@ -24,7 +24,8 @@ use Rattle.run.specs.declared.Answered.{Answered}
 use Rattle.run.specs.declared.Answered.the-variants as answers
 use Rattle.run.specs.declared.Offer.{Offer}
 use Rattle.run.specs.Texts.{ascii, decimal}
-use Rattle.run.specs.Roll.{mostRoll, mostEvents, sizesLength, eventsOf, markPlace, kindAt, zeroAt, lengthAt, bodiesPlace, misfits, misshapen, offeredAt, priorityAt, callsFrom}
+use Rattle.run.specs.Roll.{mostRoll, mostEvents, sizesLength, eventsOf, markPlace, kindAt, zeroAt, lengthAt, bodiesPlace, misfits}
+use Rattle.run.specs.Roll.{misshapen, offeredAt, priorityAt, callsFrom}
 use Rattle.run.specs.RollText.{markText, lineOf, linesOf, stepOf}
 use Rattle.run.specs.Held.{openRefuses, heldAfter, firstCalls}
 use Rattle.run.specs.MadeBytes.{noAct}
@@ -106,13 +107,15 @@ pub record LinesFit (prints : Bool) (i p : ℕ) (text : List ℕ) : Type 0 where
   pub long : prints ≡ true → mostRoll ≤ length text
 
 -- made: record, lists and text are left so, and the text ends at r
-pub record Runs (prints : Bool) (s : List ℕ) (k : ℕ) (x : State) (at : ℕ) (before : List ℕ) (b : Bench) (r : ℕ) (names counts after : List ℕ) : Type 0 where
+pub record Runs (prints : Bool) (s : List ℕ) (k : ℕ) (x : State) (at : ℕ) (before : List ℕ) (b : Bench) (r : ℕ)
+    (names counts after : List ℕ) : Type 0 where
   pub leaves : Leaves (coreOf (heldAfter x (firstCalls s k))) b names counts
   pub lines : Puts (told prints (linesOf x (firstCalls s k))) at before r after
   pub short : prints ≡ true → r ≤ mostRoll
 
 -- what is left of it before event i, whose body starts at place a: made on y and written from place p on, it comes to the same
-pub record Ahead (prints : Bool) (s : List ℕ) (k : ℕ) (x : State) (at : ℕ) (before : List ℕ) (i a : ℕ) (y : State) (p : ℕ) (text : List ℕ) : Type 0 where
+pub record Ahead (prints : Bool) (s : List ℕ) (k : ℕ) (x : State) (at : ℕ) (before : List ℕ) (i a : ℕ) (y : State) (p : ℕ)
+    (text : List ℕ) : Type 0 where
   pub held : heldAfter x (firstCalls s k) ≡ heldAfter y (callsFrom s i a (k - i))
   pub lines : Remains (put before at (told prints (linesOf x (firstCalls s k)))) (at + length (told prints (linesOf x (firstCalls s k))))
       text p (told prints (linesOf y (callsFrom s i a (k - i))))

@@ -1,5 +1,5 @@
--- What the program prints for a roll, as a function of the roll's bytes (document 01, "The roll"), through the calls that demand 3 is proved of.
--- Assumes nothing.
+-- What the program prints for a roll, as a function of the roll's bytes (document 01, "The roll"), through the calls that demand 3 is
+-- proved of. Assumes nothing.
 use Prim.Native.Nat.{ℕ, _≤_}
 use mathlib.Core.Bool.{Bool, true, false}
 use mathlib.Core.List.{List, [], _∷_, _++_}
@@ -115,8 +115,8 @@ textOf s = pick (misshapen s) noRollText (openedText s freshLists (openOf (bench
 abbrev pub scantBuffer : List ℕ → Bool
 scantBuffer before = ltb (length before) mostRoll
 
--- The text stands at the front of the lent buffer, whole, and all else there is as it was. Into a buffer that is too short nothing is written, and the
--- answer is 0, which no text's length is (EventLaws: text-some).
+-- The text stands at the front of the lent buffer, whole, and all else there is as it was. Into a buffer that is too short nothing is
+-- written, and the answer is 0, which no text's length is (EventLaws: text-some).
 pub record WritesText (s before : List ℕ) (r : ℕ) (after : List ℕ) : Type 0 where
   pub answered : r ≡ pick (scantBuffer before) 0 (length (textOf s))
   pub fits : r ≤ length after

@@ -49,8 +49,10 @@ fn act_event(
 ) -> Called
     requires { ⌜ at < 4294967296 ⌝ }
     ensures { λ r. ⌜ EventGives (act (offeredAt (now (roll .entry)) at) (priorityAt (now (roll .entry)) at) freshBuffer)
-        (heldWith (benchFrom h (now (even .entry)) (now (odd .entry)) (now (proposed .entry)) (now (priorities .entry))) (now (names .entry)) (now (counts .entry)))
-        (r .answer) (benchFrom (r .head) (now (even .exit)) (now (odd .exit)) (now (proposed .exit)) (now (priorities .exit))) (now (names .exit)) (now (counts .exit)) ⌝ }
+        (heldWith (benchFrom h (now (even .entry)) (now (odd .entry)) (now (proposed .entry)) (now (priorities .entry)))
+        (now (names .entry)) (now (counts .entry)))
+        (r .answer) (benchFrom (r .head) (now (even .exit)) (now (odd .exit)) (now (proposed .exit)) (now (priorities .exit)))
+        (now (names .exit)) (now (counts .exit)) ⌝ }
 {
     let offer = offer_in(roll, at);
     let acted = parts::act(
@@ -90,8 +92,10 @@ pub(crate) fn call_event(
 ) -> Called
     requires { ⌜ Lies (now roll) i at ⌝ }
     ensures { λ r. ⌜ EventGives (callAt (now (roll .entry)) i at)
-        (heldWith (benchFrom h (now (even .entry)) (now (odd .entry)) (now (proposed .entry)) (now (priorities .entry))) (now (names .entry)) (now (counts .entry)))
-        (r .answer) (benchFrom (r .head) (now (even .exit)) (now (odd .exit)) (now (proposed .exit)) (now (priorities .exit))) (now (names .exit)) (now (counts .exit)) ⌝ }
+        (heldWith (benchFrom h (now (even .entry)) (now (odd .entry)) (now (proposed .entry)) (now (priorities .entry)))
+        (now (names .entry)) (now (counts .entry)))
+        (r .answer) (benchFrom (r .head) (now (even .exit)) (now (odd .exit)) (now (proposed .exit)) (now (priorities .exit)))
+        (now (names .exit)) (now (counts .exit)) ⌝ }
 {
     let kind = roll[SIZES_LENGTH + MARK_LENGTH * i];
     if kind == BEGIN_KIND {

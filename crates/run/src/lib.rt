@@ -104,7 +104,10 @@ pub fn roll_page(
     counts: &mut [u16],
     page: &mut [u8],
 ) -> usize
-    ensures { λ r. ⌜ GivesPage (noPage (now (roll .entry)) calls (lentAs (now (names .entry)) (now (counts .entry))) (now (page .entry))) (heldAt (now (roll .entry)) (lentAs (now (names .entry)) (now (counts .entry))) calls) (lentAs (now (names .entry)) (now (counts .entry))) (now (page .entry)) r (now (names .exit)) (now (counts .exit)) (now (page .exit)) ⌝ }
+    ensures { λ r. ⌜ GivesPage (noPage (now (roll .entry)) calls (lentAs (now (names .entry)) (now (counts .entry))) (now (page .entry)))
+        (heldAt (now (roll .entry)) (lentAs (now (names .entry)) (now (counts .entry))) calls)
+        (lentAs (now (names .entry)) (now (counts .entry))) (now (page .entry)) r (now (names .exit)) (now (counts .exit))
+        (now (page .exit)) ⌝ }
 {
     if is_no_page(roll, calls, names, counts, page) {
         return 0;

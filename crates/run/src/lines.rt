@@ -6,7 +6,8 @@ ghost use Rattle.agreement.specs.Sets.{isYes};
 ghost use Rattle.run.specs.Texts.{ascii, decimal, mostDigits};
 ghost use Rattle.run.specs.Roll.{benchesOf, ownOf};
 ghost use Rattle.run.specs.RollText.{noRollText, firstLine, markText};
-ghost use Rattle.run.specs.RollSteps.{lineRoom, startText, takenText, standText, actedText, answerText, Puts, Shaped, told, LineFits, LineEnds};
+ghost use Rattle.run.specs.RollSteps.{lineRoom, startText, takenText, standText, actedText, answerText, Puts, Shaped, told, LineFits};
+ghost use Rattle.run.specs.RollSteps.{LineEnds};
 use super::Answered;
 use super::texts::put_decimal;
 use super::texts::put_word;
@@ -26,7 +27,8 @@ fn put_numbered(text: &mut [u8], at: usize, word: &[u8], x: u32) -> usize
 
 pub(crate) fn put_first_line(text: &mut [u8], roll: &[u8]) -> usize
     requires { ⌜ (lineRoom ≤ length (now text)) × Shaped (now roll) ⌝ }
-    ensures { λ r. ⌜ Puts (firstLine (ownOf (now (roll .entry))) (benchesOf (now (roll .entry)))) 0 (now (text .entry)) r (now (text .exit)) ⌝ }
+    ensures { λ r. ⌜ Puts (firstLine (ownOf (now (roll .entry))) (benchesOf (now (roll .entry)))) 0 (now (text .entry)) r
+        (now (text .exit)) ⌝ }
     ensures { λ r. ⌜ r ≤ lineRoom ⌝ }
 {
     let own = roll[1];
@@ -112,7 +114,8 @@ fn put_stand(text: &mut [u8], at: usize, decided: u16, parted: u16) -> usize
 // What was made: its kind's word, its blocks, and what stands.
 fn put_made(text: &mut [u8], at: usize, word: &[u8], k: u8, decided: u16, parted: u16) -> usize
     requires { ⌜ (at + lineRoom ≤ length (now text)) × (length (now word) ≤ 19) ⌝ }
-    ensures { λ r. ⌜ Puts (now (word .entry) ++ (decimal k ++ standText decided (isYes parted))) at (now (text .entry)) r (now (text .exit)) ⌝ }
+    ensures { λ r. ⌜ Puts (now (word .entry) ++ (decimal k ++ standText decided (isYes parted))) at (now (text .entry)) r
+        (now (text .exit)) ⌝ }
     ensures { λ r. ⌜ r ≤ at + lineRoom ⌝ }
 {
     let p = put_numbered(text, at, word, k as u32);

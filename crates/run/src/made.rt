@@ -50,7 +50,9 @@ pub(crate) fn act_in(
     out: &mut [u8],
 ) -> usize
     requires { ⌜ at < 4294967296 ⌝ }
-    ensures { λ r. ⌜ GivesMade (madeBy (actOf (stateOf bench (now (names .entry)) (now (counts .entry))) (offeredAt (now (roll .entry)) at) (priorityAt (now (roll .entry)) at) (now (out .entry)) .answer .reply)) (now (out .entry)) r (now (out .exit)) ⌝ }
+    ensures { λ r. ⌜ GivesMade
+        (madeBy (actOf (stateOf bench (now (names .entry)) (now (counts .entry))) (offeredAt (now (roll .entry)) at)
+        (priorityAt (now (roll .entry)) at) (now (out .entry)) .answer .reply)) (now (out .entry)) r (now (out .exit)) ⌝ }
 {
     let offer = offer_in(roll, at);
     let acted = calls::act(

@@ -1,5 +1,5 @@
--- A gathering with one message on one lent record, as demand 3 has it: events of `theBench` on a lent record, each from what the last one left.
--- Assumes nothing.
+-- A gathering with one message on one lent record, as demand 3 has it: events of `theBench` on a lent record, each from what the last one
+-- left. Assumes nothing.
 use Prim.Native.Nat.{ℕ}
 use mathlib.Core.List.{List, [], _∷_}
 use mathlib.Core.Path.{_≡_}

@@ -26,7 +26,9 @@ pub fn gather(
     count: u16,
     priority: u64,
 ) -> Gathered
-    ensures { λ r. ⌜ GatheringGives (stateOf bench (now (names .entry)) (now (counts .entry))) (gatheringOf beat (now (message .entry)) (record { name = name; count = count }) priority (now (out .entry))) r (now (names .exit)) (now (counts .exit)) (now (out .exit)) ⌝ }
+    ensures { λ r. ⌜ GatheringGives (stateOf bench (now (names .entry)) (now (counts .entry)))
+        (gatheringOf beat (now (message .entry)) (record { name = name; count = count }) priority (now (out .entry))) r (now (names .exit))
+        (now (counts .exit)) (now (out .exit)) ⌝ }
 {
     let mut record = bench;
     let started = lent::begin(&mut record, names, counts, beat);

@@ -14,7 +14,8 @@ use prog.Wp.{Heap, Calls, Loops, WpFn, Tables}
 use ghost.Atoms.{Atoms}
 use contract.Monad.{Fun, fact}
 use contract.Running.{givenOf, tables, tablesOf}
-use types.Kit.{Given, Item, ⋆, ‵, raw, _⊛_, some, later, _$_, _∵_, !, qed, by, move, keep, drop, use1, use3, split, join, pick, fsplit, fsplit3, fjoin, fjoin3, feqI, feqL, suffices, frame, await, done}
+use types.Kit.{Given, Item, ⋆, ‵, raw, _⊛_, some, later, _$_, _∵_, !, qed, by, move, keep, drop, use1, use3, split, join, pick, fsplit}
+use types.Kit.{fsplit3, fjoin, fjoin3, feqI, feqL, suffices, frame, await, done}
 use types.Run.{init, no-more, enter, alloc1, alloc0, params1, pass1, pass0, free0}
 use types.SemTy.{Body}
 use sound.WpLaws.{FmC, fmOf, WpFn-mono}
@@ -36,7 +37,8 @@ use denote.Triple.Clauses.{ensured, lasts}
 use denote.Triple.Entry.{onEntry}
 use denote.Triple.Spec.{Meets, tripleOf}
 use denote.Triple.Table.{entered, cited}
-use denote.Triple.Walked.{says, Stays, stay-ref, gave-slice, stay-dropped, walkOf, AllGo, goes-ref, goes-gave-slice, goes-dropped, Walks, ends-at, walked, walk-meets}
+use denote.Triple.Walked.{says, Stays, stay-ref, gave-slice, stay-dropped, walkOf, AllGo, goes-ref, goes-gave-slice, goes-dropped, Walks}
+use denote.Triple.Walked.{ends-at, walked, walk-meets}
 use Rattle.bench.specs.Record.{benchOf}
 use Rattle.bench.specs.ByRecord.{actOf}
 use Rattle.bench.specs.Answers.{stateOf, ActGives}
@@ -64,13 +66,26 @@ answerVal r = LE.val S.the-type S′.the-laws (r .answer)
 
 -- what is had of each parameter at exit: the record's borrow, and the last value of each list that was given to the callee
 abbrev stayed : Stays (here.ended .signature .params) (here.ended .kept)
-stayed = (stay-ref (0 ∷ []) tt (plain (λ _. T.the-row)), (gave-slice (1 ∷ []) tt (plain (λ _. u64)), (gave-slice (2 ∷ []) tt (plain (λ _. u16)), (gave-slice (3 ∷ []) tt (plain (λ _. u8)), (stay-dropped (plain (λ _. u64)) yes, (stay-dropped (plain (λ _. u16)) yes, (stay-dropped (plain (λ _. u64)) yes, tt)))))))
+stayed = (
+  stay-ref (0 ∷ []) tt (plain (λ _. T.the-row)),
+  (
+    gave-slice (1 ∷ []) tt (plain (λ _. u64)),
+    (
+      gave-slice (2 ∷ []) tt (plain (λ _. u16)),
+      (
+        gave-slice (3 ∷ []) tt (plain (λ _. u8)),
+        (stay-dropped (plain (λ _. u64)) yes, (stay-dropped (plain (λ _. u16)) yes, (stay-dropped (plain (λ _. u64)) yes, tt))),
+      ),
+    ),
+  ),
+)
 
 module _ {M : Type 1} (𝓤 : URA M) (H : Heap 𝓤) (A : Atoms 𝓤) (at-mem : Memory → SProp 𝓤) (run : Routine → Fun 𝓤) where
   abbrev Callee : Contract 𝓤
   Callee = tripleOf 𝓤 H A callee.signature (callee.spec 𝓤 H A at-mem run)
 
-module _ {M : Type 1} (𝓤 : URA M) (H : Heap 𝓤) (A : Atoms 𝓤) (W : Given 𝓤 H A) (at-mem : Memory → SProp 𝓤) (run : Routine → Fun 𝓤) (κ κ₁ κ₂ κ₃ : Lft)
+module _ {M : Type 1} (𝓤 : URA M) (H : Heap 𝓤) (A : Atoms 𝓤) (W : Given 𝓤 H A) (at-mem : Memory → SProp 𝓤) (run : Routine → Fun 𝓤)
+    (κ κ₁ κ₂ κ₃ : Lft)
     (q q₁ q₂ q₃ : Share) (b o : ℕ) (γ : GName) (h : Bench) (x₁ x₂ x₃ : RefT (List ℕ)) (x₄ x₅ x₆ : ℕ) where
   abbrev s₁ : Val
   s₁ = sliceVal (x₁ .ptr) (length (x₁ .now))
@@ -103,7 +118,8 @@ module _ {M : Type 1} (𝓤 : URA M) (H : Heap 𝓤) (A : Atoms 𝓤) (W : Given
   qs = (q, (q₁, (q₂, (q₃, tt))))
 
   abbrev Does : Acted → List ℕ → List ℕ → List ℕ → Type 0
-  Does r ns cs os = ActGives (actOf (stateOf h (x₁ .now) (x₂ .now)) (record { name = x₄; count = x₅ }) x₆ (x₃ .now)) (r .answer) (benchOf (r .bench)) ns cs os
+  Does r ns cs os = ActGives (actOf (stateOf h (x₁ .now) (x₂ .now)) (record { name = x₄; count = x₅ }) x₆ (x₃ .now)) (r .answer)
+      (benchOf (r .bench)) ns cs os
 
   abbrev Post : Val → SProp 𝓤
   Post = walkOf 𝓤 H A here.ended stayed (here.clauses 𝓤 H A at-mem run) .post ((κs, qs, tt, passed, at), tt)
@@ -114,26 +130,32 @@ module _ {M : Type 1} (𝓤 : URA M) (H : Heap 𝓤) (A : Atoms 𝓤) (W : Given
 
   -- all else that is passed on to the callee
   abbrev Rest : Fml
-  Rest = owns (MutSlice (named 0) κ₁ u64 ∷ MutSlice (named 1) κ₂ u16 ∷ MutSlice (named 2) κ₃ u8 ∷ u64 ∷ u16 ∷ u64 ∷ []) (x₁, (x₂, (x₃, (x₄, (x₅, (x₆, tt)))))) (
-    s₁
-        ∷ [],
-    (s₂ ∷ [], (s₃ ∷ [], (s₄ ∷ [], (s₅ ∷ [], (s₆ ∷ [], tt))))),
-  )
+  Rest = owns (MutSlice (named 0) κ₁ u64 ∷ MutSlice (named 1) κ₂ u16 ∷ MutSlice (named 2) κ₃ u8 ∷ u64 ∷ u16 ∷ u64 ∷ [])
+      (x₁, (x₂, (x₃, (x₄, (x₅, (x₆, tt)))))) (
+        s₁
+            ∷ [],
+        (s₂ ∷ [], (s₃ ∷ [], (s₄ ∷ [], (s₅ ∷ [], (s₆ ∷ [], tt))))),
+      )
 
   -- what is left when the borrow is closed at the record of m
   abbrev leaving : Acted → List ℕ → List ℕ → List ℕ → List (Item 𝓤)
-  leaving m ns cs os = ‵ (fobs γ (T.the-row .coded .code (m .bench))) ∷ ‵ (fbor κ (Body (mem T.the-row) b o γ)) ∷ ‵ (flft κ q) ∷ toks ∷ ‵ (finally u64 (x₁ .name) ns)
+  leaving m ns cs os = ‵ (fobs γ (T.the-row .coded .code (m .bench))) ∷ ‵ (fbor κ (Body (mem T.the-row) b o γ)) ∷ ‵ (flft κ q) ∷ toks ∷ ‵
+      (finally u64 (x₁ .name) ns)
       ∷ ‵ (finally u16 (x₂ .name) cs) ∷ ‵ (finally u8 (x₃ .name) os) ∷ []
 
-  exits : (m : Acted) (ns : List ℕ) (cs : List ℕ) (os : List ℕ) → Does m ns cs os → length ns ≡ length (x₁ .now) → length cs ≡ length (x₂ .now)
-      → length os ≡ length (x₃ .now) → Is S.the-row (m .answer) (answerVal m ∷ []) → ent 𝓤 (⋆ 𝓤 H A (leaving m ns cs os)) (Post (answerVal m))
+  exits : (m : Acted) (ns : List ℕ) (cs : List ℕ) (os : List ℕ) → Does m ns cs os → length ns ≡ length (x₁ .now)
+      → length cs ≡ length (x₂ .now)
+      → length os ≡ length (x₃ .now) → Is S.the-row (m .answer) (answerVal m ∷ [])
+      → ent 𝓤 (⋆ 𝓤 H A (leaving m ns cs os)) (Post (answerVal m))
   exits m ns cs os e l₁ l₂ l₃ fits =
       qed W (leaving m ns cs os) ∵
-      suffices ! _ (ends-at 𝓤 H A here.ended stayed (here.clauses 𝓤 H A at-mem run) W ((κs, qs, tt, passed, at), tt) (answerVal m) (m .answer)
+      suffices ! _ (ends-at 𝓤 H A here.ended stayed (here.clauses 𝓤 H A at-mem run) W ((κs, qs, tt, passed, at), tt) (answerVal m)
+      (m .answer)
       (m .bench, (ns, (cs, (os, (tt, (tt, (tt, tt))))))) (tt, (l₁, (l₂, (l₃, (tt, (tt, (tt, tt)))))))) $ says ! e $
       move ! (2 ∷ 3 ∷ []) $ join ! $ frame ! $
       -- [obs; the borrow; the last names; the last counts; the last out]
-      feqI ! (List Val) (vptr b o ∷ []) (vptr b o ∷ []) refl $ fjoin3 ! $ nothing ! $ nothing ! $ fjoin ! $ nothing ! $ fjoin ! $ nothing ! $ fjoin ! $
+      feqI ! (List Val) (vptr b o ∷ [])
+      (vptr b o ∷ []) refl $ fjoin3 ! $ nothing ! $ nothing ! $ fjoin ! $ nothing ! $ fjoin ! $ nothing ! $ fjoin ! $
       move ! (4 ∷ 0 ∷ []) $ fjoin ! $ move ! (3 ∷ 0 ∷ []) $ fjoin ! $ move ! (2 ∷ 0 ∷ []) $ fjoin ! $ move ! (1 ∷ 0 ∷ []) $ fjoin ! $
       owned ! S.the-row (Is S.the-row) (LE.makes S.the-type S′.the-plain 𝓤 H A) (m .answer) _ fits $ move ! (1 ∷ 0 ∷ []) $ done !
 
@@ -155,13 +177,15 @@ module _ {M : Type 1} (𝓤 : URA M) (H : Heap 𝓤) (A : Atoms 𝓤) (W : Given
   )
 
   abbrev Ensured : Acted → SProp 𝓤
-  Ensured r = ensured 𝓤 H A callee.ended (callee.clauses 𝓤 H A at-mem run) (κ₁, (κ₂, (κ₃, tt))) (h, (x₁, (x₂, (x₃, (x₄, (x₅, (x₆, tt))))))) tt r
+  Ensured r = ensured 𝓤 H A callee.ended (callee.clauses 𝓤 H A at-mem run) (κ₁, (κ₂, (κ₃, tt)))
+      (h, (x₁, (x₂, (x₃, (x₄, (x₅, (x₆, tt))))))) tt r
 
   abbrev Lasts : Type 0
   Lasts = Unit {0} × (List ℕ × (List ℕ × (List ℕ × (Unit {0} × (Unit {0} × (Unit {0} × Unit {0}))))))
 
   asks : (v : Val) → ent 𝓤 (⋆ 𝓤 H A (toks ∷ ‵ (T.the-row .own h (v ∷ [])) ∷ ‵ Rest ∷ [])) (Callee 𝓤 H A at-mem run .pre (asked v))
-  asks v = qed W (toks ∷ ‵ (T.the-row .own h (v ∷ [])) ∷ ‵ Rest ∷ []) ∵ move ! (1 ∷ 2 ∷ []) $ fjoin ! $ move ! (1 ∷ 0 ∷ []) $ join ! $ frame ! $ done !
+  asks v = qed W (toks ∷ ‵ (T.the-row .own h (v ∷ [])) ∷ ‵ Rest ∷ []) ∵ move ! (1 ∷ 2 ∷ []) $ fjoin ! $ move !
+      (1 ∷ 0 ∷ []) $ join ! $ frame ! $ done !
 
   -- the result, as the machine has it, and its answer
   gave : (r : Acted) (v : Val) → Is R.the-row r (v ∷ []) → Gave (lone (R.the-row .mir)) (lone (S.the-row .mir)) (answerVal r) (r .bench) v
@@ -176,10 +200,12 @@ module _ {M : Type 1} (𝓤 : URA M) (H : Heap 𝓤) (A : Atoms 𝓤) (W : Given
 
   module _ (C : Calls 𝓤 H) (Λ : Loops 𝓤 H) (fm : FmC 𝓤 H (W .laws) C) (known : Triple 𝓤 (C #callee) (Callee 𝓤 H A at-mem run)) where
     walk : length (x₁ .now) < 2 ^ 64 → length (x₂ .now) < 2 ^ 64 → length (x₃ .now) < 2 ^ 64 → x₄ < 2 ^ 64 → x₅ < 2 ^ 16 → x₆ < 2 ^ 64
-        → ent 𝓤 (onEntry 𝓤 H A here.signature κs qs passed at) (WpFn 𝓤 H C Λ code.function (vptr b o ∷ s₁ ∷ s₂ ∷ s₃ ∷ s₄ ∷ s₅ ∷ s₆ ∷ []) Post)
+        → ent 𝓤 (onEntry 𝓤 H A here.signature κs qs passed at)
+        (WpFn 𝓤 H C Λ code.function (vptr b o ∷ s₁ ∷ s₂ ∷ s₃ ∷ s₄ ∷ s₅ ∷ s₆ ∷ []) Post)
     walk r₁ r₂ r₃ r₄ r₅ r₆ =
         qed W ((‵ (flft κ q) ⊛ ‵ (flft κ₁ q₁) ⊛ ‵ (flft κ₂ q₂) ⊛ ‵ (flft κ₃ q₃) ⊛ ‵ ftrue)
-        ∷ ‵ (owns (MutRef (named 0) κ (T.the-row) ∷ MutSlice (named 1) κ₁ u64 ∷ MutSlice (named 2) κ₂ u16 ∷ MutSlice (named 3) κ₃ u8 ∷ u64 ∷ u16 ∷ u64
+        ∷ ‵ (owns (MutRef (named 0) κ (T.the-row) ∷ MutSlice (named 1) κ₁ u64 ∷ MutSlice (named 2) κ₂ u16 ∷ MutSlice
+        (named 3) κ₃ u8 ∷ u64 ∷ u16 ∷ u64
         ∷ []) passed at) ∷ []) ∵ split ! $ move ! (2 ∷ []) $ fsplit ! $ fsplit3 ! $ drop ! $
         -- [obs; the borrow; the token; what else was passed; the other tokens]
         move ! (0 ∷ 1 ∷ 3 ∷ 2 ∷ 4 ∷ []) $
@@ -205,22 +231,29 @@ module _ {M : Type 1} (𝓤 : URA M) (H : Heap 𝓤) (A : Atoms 𝓤) (W : Given
         -- _9, _11, _13, _15, _5, _6, _7
         calls-at ! fm (Callee 𝓤 H A at-mem run) known (asked _)
         (arg ! 15 refl (arg ! 9 refl (arg ! 6 refl (arg ! 3 refl (arg ! 29 refl (arg ! 27 refl (arg ! 25 refl (no-more !)))))))) (λ v.
-        use1 W (later (some (λ (r : Acted). (toks ⊛ ‵ (R.the-row .own r (v ∷ []))) ⊛ raw (Ensured r)))) (id⊢ 𝓤 _) $ await ! tt $ pick ! (λ r. split ! $
+        use1 W (later (some (λ (r : Acted). (toks ⊛ ‵ (R.the-row .own r (v ∷ []))) ⊛ raw (Ensured r)))) (id⊢ 𝓤 _) $ await ! tt $ pick !
+        (λ r. split ! $
         move ! (1 ∷ []) $
-        use1 W (some (λ (zs : Lasts). ‵ (lasts callee.ended (κ₁, (κ₂, (κ₃, tt))) (h, (x₁, (x₂, (x₃, (x₄, (x₅, (x₆, tt))))))) zs) ⊛ raw (fact 𝓤
+        use1 W (some (λ (zs : Lasts). ‵ (lasts callee.ended (κ₁, (κ₂, (κ₃, tt))) (h, (x₁, (x₂, (x₃, (x₄, (x₅, (x₆, tt))))))) zs) ⊛ raw
+        (fact 𝓤
         (Does r (zs .1 .0) (zs .1 .1 .0) (zs .1 .1 .1 .0))))) (id⊢ 𝓤 _) $ pick ! (λ zs.
-        split ! $ move ! (1 ∷ []) $ heard ! (Does r (zs .1 .0) (zs .1 .1 .0) (zs .1 .1 .1 .0)) (λ e. fsplit ! $ drop ! $ fsplit ! $ fsplit ! $ move ! (1 ∷ []) $
-        feqL ! (λ e₁. move ! (1 ∷ []) $ fsplit ! $ fsplit ! $ move ! (1 ∷ []) $ feqL ! (λ e₂. move ! (1 ∷ []) $ fsplit ! $ fsplit ! $ move ! (1 ∷ []) $
+        split ! $ move ! (1 ∷ []) $ heard ! (Does r (zs .1 .0) (zs .1 .1 .0) (zs .1 .1 .1 .0))
+        (λ e. fsplit ! $ drop ! $ fsplit ! $ fsplit ! $ move ! (1 ∷ []) $
+        feqL ! (λ e₁. move ! (1 ∷ []) $ fsplit ! $ fsplit ! $ move ! (1 ∷ []) $ feqL !
+        (λ e₂. move ! (1 ∷ []) $ fsplit ! $ fsplit ! $ move ! (1 ∷ []) $
         feqL ! (λ e₃.
         move ! (4 ∷ []) $ split ! $ move ! (1 ∷ []) $ peeks ! R.the-row (Is R.the-row) (shows 𝓤 H A R.the-row) r (v ∷ []) (λ is′. drop ! $
         -- the cell, the open borrow, obs, auth, _1, _8, _0
         move ! (14 ∷ 15 ∷ 16 ∷ 17 ∷ 18 ∷ 27 ∷ 39 ∷ []) $ stored-back ! (r .bench) refl refl refl refl refl (gave r v is′) $
         -- the locals, with what frees each
-        move ! (5 ∷ 39 ∷ 3 ∷ 38 ∷ 17 ∷ 37 ∷ 14 ∷ 36 ∷ 11 ∷ 35 ∷ 33 ∷ 34 ∷ 31 ∷ 32 ∷ 29 ∷ 30 ∷ 4 ∷ 28 ∷ 20 ∷ 27 ∷ 18 ∷ 26 ∷ 19 ∷ 25 ∷ 15 ∷ 24 ∷ 16 ∷ 23 ∷ 12 ∷ 22 ∷ 13
-        ∷ 21 ∷ []) $ freed ! $ freed ! $ freed ! $ freed ! $ freed ! $ freed ! $ freed ! $ freed ! $ freed ! $ freed ! $ freed ! $ freed ! $ freed ! $ freed ! $
+        move ! (5 ∷ 39 ∷ 3 ∷ 38 ∷ 17 ∷ 37 ∷ 14 ∷ 36 ∷ 11 ∷ 35 ∷ 33 ∷ 34 ∷ 31 ∷ 32 ∷ 29 ∷ 30 ∷ 4 ∷ 28 ∷ 20 ∷ 27 ∷ 18 ∷ 26 ∷ 19 ∷ 25 ∷ 15 ∷ 24
+        ∷ 16 ∷ 23 ∷ 12 ∷ 22 ∷ 13
+        ∷ 21 ∷ []) $ freed ! $ freed ! $ freed ! $ freed ! $ freed ! $ freed ! $ freed ! $ freed ! $ freed ! $ freed ! $ freed ! $ freed ! $
+        freed ! $ freed ! $
         freed ! $ freed ! $ free0 ! $
         keep ! (0 ∷ 1 ∷ 2 ∷ 3 ∷ 7 ∷ 6 ∷ 4 ∷ []) $
-        by ! (exits r (zs .1 .0) (zs .1 .1 .0) (zs .1 .1 .1 .0) e e₁ e₂ e₃ (LL.owed R.the-type R′.the-laws r _ is′ .0)))))))))))))))))))))))))))
+        by ! (exits r (zs .1 .0) (zs .1 .1 .0) (zs .1 .1 .1 .0) e e₁ e₂ e₃
+        (LL.owed R.the-type R′.the-laws r _ is′ .0)))))))))))))))))))))))))))
 
 module _ {M : Type 1} (𝓤 : URA M) (H : Heap 𝓤) (A : Atoms 𝓤) (W : Given 𝓤 H A) (at-mem : Memory → SProp 𝓤) (run : Routine → Fun 𝓤) where
   walks : (C : Calls 𝓤 H) (Λ : Loops 𝓤 H) → FmC 𝓤 H (W .laws) C → Triple 𝓤 (C #callee) (Callee 𝓤 H A at-mem run)
@@ -228,16 +261,46 @@ module _ {M : Type 1} (𝓤 : URA M) (H : Heap 𝓤) (A : Atoms 𝓤) (W : Given
   walks C Λ fm known =
       walked 𝓤 H A here.ended stayed (here.clauses 𝓤 H A at-mem run) (WpFn 𝓤 H C Λ code.function)
       (λ κs. (ptr-vals, (slice-vals, (slice-vals, (slice-vals, (uint-vals w64, (uint-vals w16, (uint-vals w64, tt))))))))
-      (λ κs. (mut-tells (named 0) (κs .0) (T.the-row), (mut-slice-tells (named 1) (κs .1 .0) u64, (mut-slice-tells (named 2) (κs .1 .1 .0) u16, (mut-slice-tells (named 3) (κs .1 .1 .1 .0) u8, (uint-tells w64, (uint-tells w16, (uint-tells w64, tt))))))))
-      (λ κs qs bounds a g are. via 𝓤 _ (fst∗ 𝓤 _ (emp 𝓤)) (walk 𝓤 H A W at-mem run (κs .0) (κs .1 .0) (κs .1 .1 .0) (κs .1 .1 .1 .0) (qs .0) (qs .1 .0) (qs .1 .1 .0)
-      (qs .1 .1 .1 .0) (a .0 .ptr .0) (a .0 .ptr .1) (a .0 .name) (a .0 .now) (a .1 .0) (a .1 .1 .0) (a .1 .1 .1 .0) (a .1 .1 .1 .1 .0) (a .1 .1 .1 .1 .1 .0)
+      (λ κs. (
+        mut-tells (named 0) (κs .0) (T.the-row),
+        (
+          mut-slice-tells (named 1) (κs .1 .0) u64,
+          (
+            mut-slice-tells (named 2) (κs .1 .1 .0) u16,
+            (mut-slice-tells (named 3) (κs .1 .1 .1 .0) u8, (uint-tells w64, (uint-tells w16, (uint-tells w64, tt)))),
+          ),
+        ),
+      ))
+      (λ κs qs bounds a g are. via 𝓤 _ (fst∗ 𝓤 _ (emp 𝓤))
+      (walk 𝓤 H A W at-mem run (κs .0) (κs .1 .0) (κs .1 .1 .0) (κs .1 .1 .1 .0) (qs .0) (qs .1 .0) (qs .1 .1 .0)
+      (qs .1 .1 .1 .0) (a .0 .ptr .0) (a .0 .ptr .1) (a .0 .name) (a .0 .now) (a .1 .0) (a .1 .1 .0) (a .1 .1 .1 .0) (a .1 .1 .1 .1 .0)
+      (a .1 .1 .1 .1 .1 .0)
       (a .1 .1 .1 .1 .1 .1 .0) C Λ fm known (are .1 .0 .0 .1 .0) (are .1 .1 .0 .0 .1 .0) (are .1 .1 .1 .0 .0 .1 .0) (are .1 .1 .1 .1 .0 .1)
       (are .1 .1 .1 .1 .1 .0 .1) (are .1 .1 .1 .1 .1 .1 .0 .1)))
 
   goes : AllGo 𝓤 H A W 4 (here.signature .params) (here.ended .kept) stayed
-  goes = (goes-ref 𝓤 H A W 4 0 tt (plain (λ _. T.the-row)), (goes-gave-slice 𝓤 H A W 4 1 tt (plain (λ _. u64)), (goes-gave-slice 𝓤 H A W 4 2 tt (plain (λ _. u16)), (goes-gave-slice 𝓤 H A W 4 3 tt (plain (λ _. u8)), (goes-dropped 𝓤 H A W 4 (plain (λ _. u64)) yes (λ κs x f. refl), (goes-dropped 𝓤 H A W 4 (plain (λ _. u16)) yes (λ κs x f. refl), (goes-dropped 𝓤 H A W 4 (plain (λ _. u64)) yes (λ κs x f. refl), tt)))))))
+  goes = (
+    goes-ref 𝓤 H A W 4 0 tt (plain (λ _. T.the-row)),
+    (
+      goes-gave-slice 𝓤 H A W 4 1 tt (plain (λ _. u64)),
+      (
+        goes-gave-slice 𝓤 H A W 4 2 tt (plain (λ _. u16)),
+        (
+          goes-gave-slice 𝓤 H A W 4 3 tt (plain (λ _. u8)),
+          (
+            goes-dropped 𝓤 H A W 4 (plain (λ _. u64)) yes (λ κs x f. refl),
+            (
+              goes-dropped 𝓤 H A W 4 (plain (λ _. u16)) yes (λ κs x f. refl),
+              (goes-dropped 𝓤 H A W 4 (plain (λ _. u64)) yes (λ κs x f. refl), tt),
+            ),
+          ),
+        ),
+      ),
+    ),
+  )
 
-  meets : (𝓣 : Tables 𝓤 H) → Triple 𝓤 (𝓣 .C #callee) (Callee 𝓤 H A at-mem run) → Meets 𝓤 H A here.signature (WpFn 𝓤 H (𝓣 .C) (𝓣 .Λ) code.function)
+  meets : (𝓣 : Tables 𝓤 H) → Triple 𝓤 (𝓣 .C #callee) (Callee 𝓤 H A at-mem run)
+      → Meets 𝓤 H A here.signature (WpFn 𝓤 H (𝓣 .C) (𝓣 .Λ) code.function)
       (here.spec 𝓤 H A at-mem run)
   meets 𝓣 known = walk-meets 𝓤 H A here.ended stayed W goes (here.clauses 𝓤 H A at-mem run) (WpFn 𝓤 H (𝓣 .C) (𝓣 .Λ) code.function)
       (WpFn-mono 𝓤 H (W .laws) 𝓣 code.function) (walks (𝓣 .C) (𝓣 .Λ) (fmOf 𝓤 H (W .laws) 𝓣) known)
@@ -248,4 +311,5 @@ act-spec 𝓤 H 𝓜 𝓖 𝓡 =
     entered 𝓤 H (tripleOf 𝓤 H (𝓖 .A) here.signature (here.spec 𝓤 H (𝓖 .A) (𝓜 .mem) (𝓡 .run))) (tables 𝓤 H 𝓜 𝓡 code.env .C)
     (tables 𝓤 H 𝓜 𝓡 code.env .Λ) #here code.function (code.unfolded 𝓤 H 𝓜 𝓡)
     (meets 𝓤 H (𝓖 .A) (givenOf 𝓤 H 𝓜 𝓖) (𝓜 .mem) (𝓡 .run) (tablesOf 𝓤 H 𝓜 (tables 𝓤 H 𝓜 𝓡 code.env))
-    (cited 𝓤 H (Callee 𝓤 H (𝓖 .A) (𝓜 .mem) (𝓡 .run)) 𝓜 𝓡 code.env #callee callee-def.routine code.calls-calls·act (callee-thm.met 𝓤 H 𝓜 𝓖 𝓡)))
+    (cited 𝓤 H (Callee 𝓤 H (𝓖 .A) (𝓜 .mem) (𝓡 .run)) 𝓜 𝓡 code.env #callee callee-def.routine code.calls-calls·act
+    (callee-thm.met 𝓤 H 𝓜 𝓖 𝓡)))

@@ -14,7 +14,8 @@ use prog.Wp.{Heap, Calls, Loops, WpFn, Tables}
 use ghost.Atoms.{Atoms}
 use contract.Monad.{Fun, fact}
 use contract.Running.{givenOf, tables, tablesOf}
-use types.Kit.{Given, Item, ⋆, ‵, raw, _⊛_, some, later, _$_, _∵_, !, qed, by, move, keep, drop, use1, use3, split, join, pick, fsplit, fsplit3, fjoin, fjoin3, feqI, suffices, frame, await, done}
+use types.Kit.{Given, Item, ⋆, ‵, raw, _⊛_, some, later, _$_, _∵_, !, qed, by, move, keep, drop, use1, use3, split, join, pick, fsplit}
+use types.Kit.{fsplit3, fjoin, fjoin3, feqI, suffices, frame, await, done}
 use types.Run.{init, no-more, enter, alloc1, alloc0, params1, pass1, pass0, free0}
 use types.SemTy.{Body}
 use sound.WpLaws.{FmC, fmOf, WpFn-mono}
@@ -64,13 +65,20 @@ answerVal r = LE.val S.the-type S′.the-laws (r .answer)
 
 -- what is had of each parameter at exit: the record's borrow, and the last value of each list that was given to the callee
 abbrev stayed : Stays (here.ended .signature .params) (here.ended .kept)
-stayed = (stay-ref (0 ∷ []) tt (plain (λ _. T.the-row)), (stay-dropped (shrSliceOf (1 ∷ []) tt (plain (λ _. u64))) yes, (stay-dropped (shrSliceOf (2 ∷ []) tt (plain (λ _. u16))) yes, (stay-dropped (plain (λ _. u32)) yes, tt))))
+stayed = (
+  stay-ref (0 ∷ []) tt (plain (λ _. T.the-row)),
+  (
+    stay-dropped (shrSliceOf (1 ∷ []) tt (plain (λ _. u64))) yes,
+    (stay-dropped (shrSliceOf (2 ∷ []) tt (plain (λ _. u16))) yes, (stay-dropped (plain (λ _. u32)) yes, tt)),
+  ),
+)
 
 module _ {M : Type 1} (𝓤 : URA M) (H : Heap 𝓤) (A : Atoms 𝓤) (at-mem : Memory → SProp 𝓤) (run : Routine → Fun 𝓤) where
   abbrev Callee : Contract 𝓤
   Callee = tripleOf 𝓤 H A callee.signature (callee.spec 𝓤 H A at-mem run)
 
-module _ {M : Type 1} (𝓤 : URA M) (H : Heap 𝓤) (A : Atoms 𝓤) (W : Given 𝓤 H A) (at-mem : Memory → SProp 𝓤) (run : Routine → Fun 𝓤) (κ κ₁ κ₂ : Lft) (q q₁ q₂ : Share)
+module _ {M : Type 1} (𝓤 : URA M) (H : Heap 𝓤) (A : Atoms 𝓤) (W : Given 𝓤 H A) (at-mem : Memory → SProp 𝓤) (run : Routine → Fun 𝓤)
+    (κ κ₁ κ₂ : Lft) (q q₁ q₂ : Share)
     (b o : ℕ) (γ : GName) (h : Bench) (x₁ x₂ : RefT (List ℕ)) (x₃ : ℕ) where
   abbrev s₁ : Val
   s₁ = sliceVal (x₁ .ptr) (length (x₁ .now))
@@ -114,11 +122,13 @@ module _ {M : Type 1} (𝓤 : URA M) (H : Heap 𝓤) (A : Atoms 𝓤) (W : Given
   exits : (m : Started) → Does m → Is S.the-row (m .answer) (answerVal m ∷ []) → ent 𝓤 (⋆ 𝓤 H A (leaving m)) (Post (answerVal m))
   exits m e fits =
       qed W (leaving m) ∵
-      suffices ! _ (ends-at 𝓤 H A here.ended stayed (here.clauses 𝓤 H A at-mem run) W ((κs, qs, tt, passed, at), tt) (answerVal m) (m .answer)
+      suffices ! _ (ends-at 𝓤 H A here.ended stayed (here.clauses 𝓤 H A at-mem run) W ((κs, qs, tt, passed, at), tt) (answerVal m)
+      (m .answer)
       (m .bench, (tt, (tt, (tt, tt)))) (tt, (tt, (tt, (tt, tt))))) $ says ! e $
       move ! (2 ∷ 3 ∷ []) $ join ! $ frame ! $
       -- [obs; the borrow]
-      feqI ! (List Val) (vptr b o ∷ []) (vptr b o ∷ []) refl $ fjoin3 ! $ nothing ! $ nothing ! $ fjoin ! $ nothing ! $ fjoin ! $ nothing ! $ fjoin ! $
+      feqI ! (List Val) (vptr b o ∷ [])
+      (vptr b o ∷ []) refl $ fjoin3 ! $ nothing ! $ nothing ! $ fjoin ! $ nothing ! $ fjoin ! $ nothing ! $ fjoin ! $
       move ! (1 ∷ 0 ∷ []) $ fjoin ! $
       owned ! S.the-row (Is S.the-row) (LE.makes S.the-type S′.the-plain 𝓤 H A) (m .answer) _ fits $ move ! (1 ∷ 0 ∷ []) $ done !
 
@@ -133,7 +143,8 @@ module _ {M : Type 1} (𝓤 : URA M) (H : Heap 𝓤) (A : Atoms 𝓤) (W : Given
   Lasts = Unit {0} × (Unit {0} × (Unit {0} × (Unit {0} × Unit {0})))
 
   asks : (v : Val) → ent 𝓤 (⋆ 𝓤 H A (toks ∷ ‵ (T.the-row .own h (v ∷ [])) ∷ ‵ Rest ∷ [])) (Callee 𝓤 H A at-mem run .pre (asked v))
-  asks v = qed W (toks ∷ ‵ (T.the-row .own h (v ∷ [])) ∷ ‵ Rest ∷ []) ∵ move ! (1 ∷ 2 ∷ []) $ fjoin ! $ move ! (1 ∷ 0 ∷ []) $ join ! $ frame ! $ done !
+  asks v = qed W (toks ∷ ‵ (T.the-row .own h (v ∷ [])) ∷ ‵ Rest ∷ []) ∵ move ! (1 ∷ 2 ∷ []) $ fjoin ! $ move !
+      (1 ∷ 0 ∷ []) $ join ! $ frame ! $ done !
 
   -- the result, as the machine has it, and its answer
   gave : (r : Started) (v : Val) → Is R.the-row r (v ∷ []) → Gave (lone (R.the-row .mir)) (lone (S.the-row .mir)) (answerVal r) (r .bench) v
@@ -151,7 +162,8 @@ module _ {M : Type 1} (𝓤 : URA M) (H : Heap 𝓤) (A : Atoms 𝓤) (W : Given
         → ent 𝓤 (onEntry 𝓤 H A here.signature κs qs passed at) (WpFn 𝓤 H C Λ code.function (vptr b o ∷ s₁ ∷ s₂ ∷ s₃ ∷ []) Post)
     walk r₁ r₂ r₃ =
         qed W ((‵ (flft κ q) ⊛ ‵ (flft κ₁ q₁) ⊛ ‵ (flft κ₂ q₂) ⊛ ‵ ftrue)
-        ∷ ‵ (owns (MutRef (named 0) κ (T.the-row) ∷ ShrSlice (named 1) κ₁ u64 ∷ ShrSlice (named 2) κ₂ u16 ∷ u32 ∷ []) passed at) ∷ []) ∵ split ! $
+        ∷ ‵ (owns (MutRef (named 0) κ (T.the-row) ∷ ShrSlice (named 1) κ₁ u64 ∷ ShrSlice (named 2) κ₂ u16 ∷ u32 ∷ []) passed at) ∷ []) ∵
+        split ! $
         move ! (2 ∷ []) $ fsplit ! $ fsplit3 ! $ drop ! $
         -- [obs; the borrow; the token; what else was passed; the other tokens]
         move ! (0 ∷ 1 ∷ 3 ∷ 2 ∷ 4 ∷ []) $
@@ -166,16 +178,20 @@ module _ {M : Type 1} (𝓤 : URA M) (H : Heap 𝓤) (A : Atoms 𝓤) (W : Given
         owned ! T.the-row (Is T.the-row) ((LL.makes T.the-type T′.the-plain) 𝓤 H A) h _ is $ move ! (20 ∷ 0 ∷ 19 ∷ []) $
         use3 W (raw (Callee 𝓤 H A at-mem run .pre (asked _))) (asks _) $
         -- _6, _2, _3, _4
-        calls-at ! fm (Callee 𝓤 H A at-mem run) known (asked _) (arg ! 6 refl (arg ! 14 refl (arg ! 12 refl (arg ! 10 refl (no-more !))))) (λ v.
-        use1 W (later (some (λ (r : Started). (toks ⊛ ‵ (R.the-row .own r (v ∷ []))) ⊛ raw (Ensured r)))) (id⊢ 𝓤 _) $ await ! tt $ pick ! (λ r. split ! $
-        move ! (1 ∷ []) $ use1 W (some (λ (zs : Lasts). ‵ (lasts callee.ended (κ₁, (κ₂, tt)) (h, (x₁, (x₂, (x₃, tt)))) zs) ⊛ raw (fact 𝓤 (Does r)))) (id⊢ 𝓤 _) $
+        calls-at ! fm (Callee 𝓤 H A at-mem run) known (asked _) (arg ! 6 refl (arg ! 14 refl (arg ! 12 refl (arg ! 10 refl (no-more !)))))
+        (λ v.
+        use1 W (later (some (λ (r : Started). (toks ⊛ ‵ (R.the-row .own r (v ∷ []))) ⊛ raw (Ensured r)))) (id⊢ 𝓤 _) $ await ! tt $ pick !
+        (λ r. split ! $
+        move ! (1 ∷ []) $ use1 W
+        (some (λ (zs : Lasts). ‵ (lasts callee.ended (κ₁, (κ₂, tt)) (h, (x₁, (x₂, (x₃, tt)))) zs) ⊛ raw (fact 𝓤 (Does r)))) (id⊢ 𝓤 _) $
         pick ! (λ zs.
         split ! $ move ! (1 ∷ []) $ heard ! (Does r) (λ e.
         move ! (1 ∷ []) $ split ! $ move ! (1 ∷ []) $ peeks ! R.the-row (Is R.the-row) (shows 𝓤 H A R.the-row) r (v ∷ []) (λ is′. drop ! $
         -- the cell, the open borrow, obs, auth, _1, _5, _0
         move ! (2 ∷ 3 ∷ 4 ∷ 5 ∷ 6 ∷ 9 ∷ 18 ∷ []) $ stored-back ! (r .bench) refl refl refl refl refl (gave r v is′) $
         -- the locals, with what frees each
-        move ! (5 ∷ 18 ∷ 3 ∷ 17 ∷ 15 ∷ 16 ∷ 13 ∷ 14 ∷ 11 ∷ 12 ∷ 4 ∷ 10 ∷ 8 ∷ 9 ∷ []) $ freed ! $ freed ! $ freed ! $ freed ! $ freed ! $ freed ! $ freed ! $ free0 ! $
+        move ! (5 ∷ 18 ∷ 3 ∷ 17 ∷ 15 ∷ 16 ∷ 13 ∷ 14 ∷ 11 ∷ 12 ∷ 4 ∷ 10 ∷ 8 ∷ 9 ∷ []) $ freed ! $ freed ! $ freed ! $ freed ! $ freed ! $
+        freed ! $ freed ! $ free0 ! $
         keep ! (0 ∷ 1 ∷ 2 ∷ 3 ∷ []) $ by ! (exits r e (LL.owed R.the-type R′.the-laws r _ is′ .0)))))))))))))))
 
 module _ {M : Type 1} (𝓤 : URA M) (H : Heap 𝓤) (A : Atoms 𝓤) (W : Given 𝓤 H A) (at-mem : Memory → SProp 𝓤) (run : Routine → Fun 𝓤) where
@@ -184,15 +200,30 @@ module _ {M : Type 1} (𝓤 : URA M) (H : Heap 𝓤) (A : Atoms 𝓤) (W : Given
   walks C Λ fm known =
       walked 𝓤 H A here.ended stayed (here.clauses 𝓤 H A at-mem run) (WpFn 𝓤 H C Λ code.function)
       (λ κs. (ptr-vals, (slice-vals, (slice-vals, (uint-vals w32, tt)))))
-      (λ κs. (mut-tells (named 0) (κs .0) (T.the-row), (shr-slice-tells (named 1) (κs .1 .0) u64, (shr-slice-tells (named 2) (κs .1 .1 .0) u16, (uint-tells w32, tt)))))
-      (λ κs qs bounds a g are. via 𝓤 _ (fst∗ 𝓤 _ (emp 𝓤)) (walk 𝓤 H A W at-mem run (κs .0) (κs .1 .0) (κs .1 .1 .0) (qs .0) (qs .1 .0) (qs .1 .1 .0) (a .0 .ptr .0)
-      (a .0 .ptr .1) (a .0 .name) (a .0 .now) (a .1 .0) (a .1 .1 .0) (a .1 .1 .1 .0) C Λ fm known (are .1 .0 .0 .1 .0) (are .1 .1 .0 .0 .1 .0)
+      (λ κs. (
+        mut-tells (named 0) (κs .0) (T.the-row),
+        (shr-slice-tells (named 1) (κs .1 .0) u64, (shr-slice-tells (named 2) (κs .1 .1 .0) u16, (uint-tells w32, tt))),
+      ))
+      (λ κs qs bounds a g are. via 𝓤 _ (fst∗ 𝓤 _ (emp 𝓤))
+      (walk 𝓤 H A W at-mem run (κs .0) (κs .1 .0) (κs .1 .1 .0) (qs .0) (qs .1 .0) (qs .1 .1 .0) (a .0 .ptr .0)
+      (a .0 .ptr .1) (a .0 .name) (a .0 .now) (a .1 .0) (a .1 .1 .0) (a .1 .1 .1 .0) C Λ fm known (are .1 .0 .0 .1 .0)
+      (are .1 .1 .0 .0 .1 .0)
       (are .1 .1 .1 .0 .1)))
 
   goes : AllGo 𝓤 H A W 3 (here.signature .params) (here.ended .kept) stayed
-  goes = (goes-ref 𝓤 H A W 3 0 tt (plain (λ _. T.the-row)), (goes-dropped 𝓤 H A W 3 (shrSliceOf (1 ∷ []) tt (plain (λ _. u64))) yes (λ κs x f. refl), (goes-dropped 𝓤 H A W 3 (shrSliceOf (2 ∷ []) tt (plain (λ _. u16))) yes (λ κs x f. refl), (goes-dropped 𝓤 H A W 3 (plain (λ _. u32)) yes (λ κs x f. refl), tt))))
+  goes = (
+    goes-ref 𝓤 H A W 3 0 tt (plain (λ _. T.the-row)),
+    (
+      goes-dropped 𝓤 H A W 3 (shrSliceOf (1 ∷ []) tt (plain (λ _. u64))) yes (λ κs x f. refl),
+      (
+        goes-dropped 𝓤 H A W 3 (shrSliceOf (2 ∷ []) tt (plain (λ _. u16))) yes (λ κs x f. refl),
+        (goes-dropped 𝓤 H A W 3 (plain (λ _. u32)) yes (λ κs x f. refl), tt),
+      ),
+    ),
+  )
 
-  meets : (𝓣 : Tables 𝓤 H) → Triple 𝓤 (𝓣 .C #callee) (Callee 𝓤 H A at-mem run) → Meets 𝓤 H A here.signature (WpFn 𝓤 H (𝓣 .C) (𝓣 .Λ) code.function)
+  meets : (𝓣 : Tables 𝓤 H) → Triple 𝓤 (𝓣 .C #callee) (Callee 𝓤 H A at-mem run)
+      → Meets 𝓤 H A here.signature (WpFn 𝓤 H (𝓣 .C) (𝓣 .Λ) code.function)
       (here.spec 𝓤 H A at-mem run)
   meets 𝓣 known = walk-meets 𝓤 H A here.ended stayed W goes (here.clauses 𝓤 H A at-mem run) (WpFn 𝓤 H (𝓣 .C) (𝓣 .Λ) code.function)
       (WpFn-mono 𝓤 H (W .laws) 𝓣 code.function) (walks (𝓣 .C) (𝓣 .Λ) (fmOf 𝓤 H (W .laws) 𝓣) known)
@@ -203,4 +234,5 @@ begin-spec 𝓤 H 𝓜 𝓖 𝓡 =
     entered 𝓤 H (tripleOf 𝓤 H (𝓖 .A) here.signature (here.spec 𝓤 H (𝓖 .A) (𝓜 .mem) (𝓡 .run))) (tables 𝓤 H 𝓜 𝓡 code.env .C)
     (tables 𝓤 H 𝓜 𝓡 code.env .Λ) #here code.function (code.unfolded 𝓤 H 𝓜 𝓡)
     (meets 𝓤 H (𝓖 .A) (givenOf 𝓤 H 𝓜 𝓖) (𝓜 .mem) (𝓡 .run) (tablesOf 𝓤 H 𝓜 (tables 𝓤 H 𝓜 𝓡 code.env))
-    (cited 𝓤 H (Callee 𝓤 H (𝓖 .A) (𝓜 .mem) (𝓡 .run)) 𝓜 𝓡 code.env #callee callee-def.routine code.calls-calls·begin (callee-thm.met 𝓤 H 𝓜 𝓖 𝓡)))
+    (cited 𝓤 H (Callee 𝓤 H (𝓖 .A) (𝓜 .mem) (𝓡 .run)) 𝓜 𝓡 code.env #callee callee-def.routine code.calls-calls·begin
+    (callee-thm.met 𝓤 H 𝓜 𝓖 𝓡)))

@@ -14,7 +14,8 @@ use prog.Wp.{Heap, Calls, Loops, WpFn, Tables}
 use ghost.Atoms.{Atoms}
 use contract.Monad.{Fun, fact}
 use contract.Running.{givenOf, tables, tablesOf}
-use types.Kit.{Given, Item, ⋆, ‵, raw, _⊛_, some, later, _$_, _∵_, !, qed, by, move, keep, drop, use1, use3, split, join, pick, fsplit, fsplit3, fjoin, fjoin3, feqI, feqL, suffices, frame, await, done}
+use types.Kit.{Given, Item, ⋆, ‵, raw, _⊛_, some, later, _$_, _∵_, !, qed, by, move, keep, drop, use1, use3, split, join, pick, fsplit}
+use types.Kit.{fsplit3, fjoin, fjoin3, feqI, feqL, suffices, frame, await, done}
 use types.Run.{init, no-more, enter, alloc1, alloc0, params1, pass1, pass0, free0}
 use types.SemTy.{Body}
 use sound.WpLaws.{FmC, fmOf, WpFn-mono}
@@ -35,7 +36,8 @@ use denote.Triple.Clauses.{ensured, lasts}
 use denote.Triple.Entry.{onEntry}
 use denote.Triple.Spec.{Meets, tripleOf}
 use denote.Triple.Table.{entered, cited}
-use denote.Triple.Walked.{says, Stays, stay-ref, gave-slice, stay-dropped, walkOf, AllGo, goes-ref, goes-gave-slice, goes-dropped, Walks, ends-at, walked, walk-meets}
+use denote.Triple.Walked.{says, Stays, stay-ref, gave-slice, stay-dropped, walkOf, AllGo, goes-ref, goes-gave-slice, goes-dropped, Walks}
+use denote.Triple.Walked.{ends-at, walked, walk-meets}
 use Rattle.bench.specs.Record.{benchOf}
 use Rattle.bench.specs.ByRecord.{receiveOf}
 use Rattle.bench.specs.Answers.{stateOf, ReceiveGives}
@@ -63,13 +65,20 @@ answerVal r = LE.val S.the-type S′.the-laws (r .answer)
 
 -- what is had of each parameter at exit: the record's borrow, and the last value of each list that was given to the callee
 abbrev stayed : Stays (here.ended .signature .params) (here.ended .kept)
-stayed = (stay-ref (0 ∷ []) tt (plain (λ _. T.the-row)), (gave-slice (1 ∷ []) tt (plain (λ _. u64)), (gave-slice (2 ∷ []) tt (plain (λ _. u16)), (stay-dropped (shrSliceOf (3 ∷ []) tt (plain (λ _. u8))) yes, tt))))
+stayed = (
+  stay-ref (0 ∷ []) tt (plain (λ _. T.the-row)),
+  (
+    gave-slice (1 ∷ []) tt (plain (λ _. u64)),
+    (gave-slice (2 ∷ []) tt (plain (λ _. u16)), (stay-dropped (shrSliceOf (3 ∷ []) tt (plain (λ _. u8))) yes, tt)),
+  ),
+)
 
 module _ {M : Type 1} (𝓤 : URA M) (H : Heap 𝓤) (A : Atoms 𝓤) (at-mem : Memory → SProp 𝓤) (run : Routine → Fun 𝓤) where
   abbrev Callee : Contract 𝓤
   Callee = tripleOf 𝓤 H A callee.signature (callee.spec 𝓤 H A at-mem run)
 
-module _ {M : Type 1} (𝓤 : URA M) (H : Heap 𝓤) (A : Atoms 𝓤) (W : Given 𝓤 H A) (at-mem : Memory → SProp 𝓤) (run : Routine → Fun 𝓤) (κ κ₁ κ₂ κ₃ : Lft)
+module _ {M : Type 1} (𝓤 : URA M) (H : Heap 𝓤) (A : Atoms 𝓤) (W : Given 𝓤 H A) (at-mem : Memory → SProp 𝓤) (run : Routine → Fun 𝓤)
+    (κ κ₁ κ₂ κ₃ : Lft)
     (q q₁ q₂ q₃ : Share) (b o : ℕ) (γ : GName) (h : Bench) (x₁ x₂ x₃ : RefT (List ℕ)) where
   abbrev s₁ : Val
   s₁ = sliceVal (x₁ .ptr) (length (x₁ .now))
@@ -104,22 +113,26 @@ module _ {M : Type 1} (𝓤 : URA M) (H : Heap 𝓤) (A : Atoms 𝓤) (W : Given
 
   -- all else that is passed on to the callee
   abbrev Rest : Fml
-  Rest = owns (MutSlice (named 0) κ₁ u64 ∷ MutSlice (named 1) κ₂ u16 ∷ ShrSlice (named 2) κ₃ u8 ∷ []) (x₁, (x₂, (x₃, tt))) (s₁ ∷ [], (s₂ ∷ [], (s₃ ∷ [], tt)))
+  Rest = owns (MutSlice (named 0) κ₁ u64 ∷ MutSlice (named 1) κ₂ u16 ∷ ShrSlice (named 2) κ₃ u8 ∷ []) (x₁, (x₂, (x₃, tt)))
+      (s₁ ∷ [], (s₂ ∷ [], (s₃ ∷ [], tt)))
 
   -- what is left when the borrow is closed at the record of m
   abbrev leaving : Received → List ℕ → List ℕ → List (Item 𝓤)
-  leaving m ns cs = ‵ (fobs γ (T.the-row .coded .code (m .bench))) ∷ ‵ (fbor κ (Body (mem T.the-row) b o γ)) ∷ ‵ (flft κ q) ∷ toks ∷ ‵ (finally u64 (x₁ .name) ns)
+  leaving m ns cs = ‵ (fobs γ (T.the-row .coded .code (m .bench))) ∷ ‵ (fbor κ (Body (mem T.the-row) b o γ)) ∷ ‵ (flft κ q) ∷ toks ∷ ‵
+      (finally u64 (x₁ .name) ns)
       ∷ ‵ (finally u16 (x₂ .name) cs) ∷ []
 
   exits : (m : Received) (ns : List ℕ) (cs : List ℕ) → Does m ns cs → length ns ≡ length (x₁ .now) → length cs ≡ length (x₂ .now)
       → Is S.the-row (m .answer) (answerVal m ∷ []) → ent 𝓤 (⋆ 𝓤 H A (leaving m ns cs)) (Post (answerVal m))
   exits m ns cs e l₁ l₂ fits =
       qed W (leaving m ns cs) ∵
-      suffices ! _ (ends-at 𝓤 H A here.ended stayed (here.clauses 𝓤 H A at-mem run) W ((κs, qs, tt, passed, at), tt) (answerVal m) (m .answer)
+      suffices ! _ (ends-at 𝓤 H A here.ended stayed (here.clauses 𝓤 H A at-mem run) W ((κs, qs, tt, passed, at), tt) (answerVal m)
+      (m .answer)
       (m .bench, (ns, (cs, (tt, tt)))) (tt, (l₁, (l₂, (tt, tt))))) $ says ! e $
       move ! (2 ∷ 3 ∷ []) $ join ! $ frame ! $
       -- [obs; the borrow; the last names; the last counts]
-      feqI ! (List Val) (vptr b o ∷ []) (vptr b o ∷ []) refl $ fjoin3 ! $ nothing ! $ nothing ! $ fjoin ! $ move ! (3 ∷ 0 ∷ []) $ fjoin ! $ move ! (2 ∷ 0 ∷ []) $
+      feqI ! (List Val) (vptr b o ∷ []) (vptr b o ∷ []) refl $ fjoin3 ! $ nothing ! $ nothing ! $ fjoin ! $ move !
+      (3 ∷ 0 ∷ []) $ fjoin ! $ move ! (2 ∷ 0 ∷ []) $
       fjoin ! $ move ! (1 ∷ 0 ∷ []) $ fjoin ! $
       owned ! S.the-row (Is S.the-row) (LE.makes S.the-type S′.the-plain 𝓤 H A) (m .answer) _ fits $ move ! (1 ∷ 0 ∷ []) $ done !
 
@@ -134,10 +147,12 @@ module _ {M : Type 1} (𝓤 : URA M) (H : Heap 𝓤) (A : Atoms 𝓤) (W : Given
   Lasts = Unit {0} × (List ℕ × (List ℕ × (Unit {0} × Unit {0})))
 
   asks : (v : Val) → ent 𝓤 (⋆ 𝓤 H A (toks ∷ ‵ (T.the-row .own h (v ∷ [])) ∷ ‵ Rest ∷ [])) (Callee 𝓤 H A at-mem run .pre (asked v))
-  asks v = qed W (toks ∷ ‵ (T.the-row .own h (v ∷ [])) ∷ ‵ Rest ∷ []) ∵ move ! (1 ∷ 2 ∷ []) $ fjoin ! $ move ! (1 ∷ 0 ∷ []) $ join ! $ frame ! $ done !
+  asks v = qed W (toks ∷ ‵ (T.the-row .own h (v ∷ [])) ∷ ‵ Rest ∷ []) ∵ move ! (1 ∷ 2 ∷ []) $ fjoin ! $ move !
+      (1 ∷ 0 ∷ []) $ join ! $ frame ! $ done !
 
   -- the result, as the machine has it, and its answer
-  gave : (r : Received) (v : Val) → Is R.the-row r (v ∷ []) → Gave (lone (R.the-row .mir)) (lone (S.the-row .mir)) (answerVal r) (r .bench) v
+  gave : (r : Received) (v : Val) → Is R.the-row r (v ∷ [])
+      → Gave (lone (R.the-row .mir)) (lone (S.the-row .mir)) (answerVal r) (r .bench) v
   gave r v is =
       let fields = LL.owed R.the-type R′.the-laws r _ is in
       record {
@@ -152,7 +167,8 @@ module _ {M : Type 1} (𝓤 : URA M) (H : Heap 𝓤) (A : Atoms 𝓤) (W : Given
         → ent 𝓤 (onEntry 𝓤 H A here.signature κs qs passed at) (WpFn 𝓤 H C Λ code.function (vptr b o ∷ s₁ ∷ s₂ ∷ s₃ ∷ []) Post)
     walk r₁ r₂ r₃ =
         qed W ((‵ (flft κ q) ⊛ ‵ (flft κ₁ q₁) ⊛ ‵ (flft κ₂ q₂) ⊛ ‵ (flft κ₃ q₃) ⊛ ‵ ftrue)
-        ∷ ‵ (owns (MutRef (named 0) κ (T.the-row) ∷ MutSlice (named 1) κ₁ u64 ∷ MutSlice (named 2) κ₂ u16 ∷ ShrSlice (named 3) κ₃ u8 ∷ []) passed at) ∷ []) ∵
+        ∷ ‵ (owns (MutRef (named 0) κ (T.the-row) ∷ MutSlice (named 1) κ₁ u64 ∷ MutSlice (named 2) κ₂ u16 ∷ ShrSlice (named 3) κ₃ u8 ∷ [])
+        passed at) ∷ []) ∵
         split ! $ move ! (2 ∷ []) $ fsplit ! $ fsplit3 ! $ drop ! $
         -- [obs; the borrow; the token; what else was passed; the other tokens]
         move ! (0 ∷ 1 ∷ 3 ∷ 2 ∷ 4 ∷ []) $
@@ -160,7 +176,8 @@ module _ {M : Type 1} (𝓤 : URA M) (H : Heap 𝓤) (A : Atoms 𝓤) (W : Given
         alloc1 ! (λ l₀. alloc1 ! (λ l₁. alloc1 ! (λ l₂. alloc1 ! (λ l₃. alloc1 ! (λ l₄. alloc1 ! (λ l₅.
         alloc1 ! (λ l₆. alloc1 ! (λ l₇. alloc1 ! (λ l₈. alloc1 ! (λ l₉. alloc1 ! (λ l₁₀. alloc0 ! $ params1 ! $
         pass1 ! (init ! 18 refl (tt, tt)) $ pass1 ! (init ! 16 refl (tt, (tt, (record { fits = r₁ }, tt)))) $
-        pass1 ! (init ! 14 refl (tt, (tt, (record { fits = r₂ }, tt)))) $ pass1 ! (init ! 12 refl (tt, (tt, (record { fits = r₃ }, tt)))) $ pass0 ! $
+        pass1 ! (init ! 14 refl (tt, (tt, (record { fits = r₂ }, tt)))) $ pass1 !
+        (init ! 12 refl (tt, (tt, (record { fits = r₃ }, tt)))) $ pass0 ! $
         -- obs, the borrow, its token, _1, _6
         move ! (22 ∷ 23 ∷ 24 ∷ 18 ∷ 8 ∷ []) $ copied-out ! h refl refl (λ is.
         -- _2, _7, _8
@@ -171,20 +188,26 @@ module _ {M : Type 1} (𝓤 : URA M) (H : Heap 𝓤) (A : Atoms 𝓤) (W : Given
         owned ! T.the-row (Is T.the-row) ((LL.makes T.the-type T′.the-plain) 𝓤 H A) h _ is $ move ! (28 ∷ 0 ∷ 27 ∷ []) $
         use3 W (raw (Callee 𝓤 H A at-mem run .pre (asked _))) (asks _) $
         -- _6, _8, _10, _4
-        calls-at ! fm (Callee 𝓤 H A at-mem run) known (asked _) (arg ! 12 refl (arg ! 6 refl (arg ! 3 refl (arg ! 20 refl (no-more !))))) (λ v.
-        use1 W (later (some (λ (r : Received). (toks ⊛ ‵ (R.the-row .own r (v ∷ []))) ⊛ raw (Ensured r)))) (id⊢ 𝓤 _) $ await ! tt $ pick ! (λ r. split ! $
+        calls-at ! fm (Callee 𝓤 H A at-mem run) known (asked _) (arg ! 12 refl (arg ! 6 refl (arg ! 3 refl (arg ! 20 refl (no-more !)))))
+        (λ v.
+        use1 W (later (some (λ (r : Received). (toks ⊛ ‵ (R.the-row .own r (v ∷ []))) ⊛ raw (Ensured r)))) (id⊢ 𝓤 _) $ await ! tt $ pick !
+        (λ r. split ! $
         move ! (1 ∷ []) $
-        use1 W (some (λ (zs : Lasts). ‵ (lasts callee.ended (κ₁, (κ₂, (κ₃, tt))) (h, (x₁, (x₂, (x₃, tt)))) zs) ⊛ raw (fact 𝓤 (Does r (zs .1 .0) (zs .1 .1 .0)))))
+        use1 W (some (λ (zs : Lasts). ‵ (lasts callee.ended (κ₁, (κ₂, (κ₃, tt))) (h, (x₁, (x₂, (x₃, tt)))) zs) ⊛ raw
+        (fact 𝓤 (Does r (zs .1 .0) (zs .1 .1 .0)))))
         (id⊢ 𝓤 _) $ pick ! (λ zs.
-        split ! $ move ! (1 ∷ []) $ heard ! (Does r (zs .1 .0) (zs .1 .1 .0)) (λ e. fsplit ! $ drop ! $ fsplit ! $ fsplit ! $ move ! (1 ∷ []) $
+        split ! $ move ! (1 ∷ []) $ heard ! (Does r (zs .1 .0) (zs .1 .1 .0))
+        (λ e. fsplit ! $ drop ! $ fsplit ! $ fsplit ! $ move ! (1 ∷ []) $
         feqL ! (λ e₁. move ! (1 ∷ []) $ fsplit ! $ fsplit ! $ move ! (1 ∷ []) $ feqL ! (λ e₂.
         move ! (3 ∷ []) $ split ! $ move ! (1 ∷ []) $ peeks ! R.the-row (Is R.the-row) (shows 𝓤 H A R.the-row) r (v ∷ []) (λ is′. drop ! $
         -- the cell, the open borrow, obs, auth, _1, _5, _0
         move ! (10 ∷ 11 ∷ 12 ∷ 13 ∷ 14 ∷ 21 ∷ 28 ∷ []) $ stored-back ! (r .bench) refl refl refl refl refl (gave r v is′) $
         -- the locals, with what frees each
-        move ! (5 ∷ 28 ∷ 3 ∷ 27 ∷ 13 ∷ 26 ∷ 10 ∷ 25 ∷ 23 ∷ 24 ∷ 4 ∷ 22 ∷ 16 ∷ 21 ∷ 14 ∷ 20 ∷ 15 ∷ 19 ∷ 11 ∷ 18 ∷ 12 ∷ 17 ∷ []) $ freed ! $ freed ! $ freed ! $
+        move ! (5 ∷ 28 ∷ 3 ∷ 27 ∷ 13 ∷ 26 ∷ 10 ∷ 25 ∷ 23 ∷ 24 ∷ 4 ∷ 22 ∷ 16 ∷ 21 ∷ 14 ∷ 20 ∷ 15 ∷ 19 ∷ 11 ∷ 18 ∷ 12 ∷ 17 ∷ []) $ freed ! $
+        freed ! $ freed ! $
         freed ! $ freed ! $ freed ! $ freed ! $ freed ! $ freed ! $ freed ! $ freed ! $ free0 ! $
-        keep ! (0 ∷ 1 ∷ 2 ∷ 3 ∷ 6 ∷ 4 ∷ []) $ by ! (exits r (zs .1 .0) (zs .1 .1 .0) e e₁ e₂ (LL.owed R.the-type R′.the-laws r _ is′ .0)))))))))))))))))))))
+        keep ! (0 ∷ 1 ∷ 2 ∷ 3 ∷ 6 ∷ 4 ∷ []) $ by !
+        (exits r (zs .1 .0) (zs .1 .1 .0) e e₁ e₂ (LL.owed R.the-type R′.the-laws r _ is′ .0)))))))))))))))))))))
 
 module _ {M : Type 1} (𝓤 : URA M) (H : Heap 𝓤) (A : Atoms 𝓤) (W : Given 𝓤 H A) (at-mem : Memory → SProp 𝓤) (run : Routine → Fun 𝓤) where
   walks : (C : Calls 𝓤 H) (Λ : Loops 𝓤 H) → FmC 𝓤 H (W .laws) C → Triple 𝓤 (C #callee) (Callee 𝓤 H A at-mem run)
@@ -192,15 +215,33 @@ module _ {M : Type 1} (𝓤 : URA M) (H : Heap 𝓤) (A : Atoms 𝓤) (W : Given
   walks C Λ fm known =
       walked 𝓤 H A here.ended stayed (here.clauses 𝓤 H A at-mem run) (WpFn 𝓤 H C Λ code.function)
       (λ κs. (ptr-vals, (slice-vals, (slice-vals, (slice-vals, tt)))))
-      (λ κs. (mut-tells (named 0) (κs .0) (T.the-row), (mut-slice-tells (named 1) (κs .1 .0) u64, (mut-slice-tells (named 2) (κs .1 .1 .0) u16, (shr-slice-tells (named 3) (κs .1 .1 .1 .0) u8, tt)))))
-      (λ κs qs bounds a g are. via 𝓤 _ (fst∗ 𝓤 _ (emp 𝓤)) (walk 𝓤 H A W at-mem run (κs .0) (κs .1 .0) (κs .1 .1 .0) (κs .1 .1 .1 .0) (qs .0) (qs .1 .0) (qs .1 .1 .0)
-      (qs .1 .1 .1 .0) (a .0 .ptr .0) (a .0 .ptr .1) (a .0 .name) (a .0 .now) (a .1 .0) (a .1 .1 .0) (a .1 .1 .1 .0) C Λ fm known (are .1 .0 .0 .1 .0)
+      (λ κs. (
+        mut-tells (named 0) (κs .0) (T.the-row),
+        (
+          mut-slice-tells (named 1) (κs .1 .0) u64,
+          (mut-slice-tells (named 2) (κs .1 .1 .0) u16, (shr-slice-tells (named 3) (κs .1 .1 .1 .0) u8, tt)),
+        ),
+      ))
+      (λ κs qs bounds a g are. via 𝓤 _ (fst∗ 𝓤 _ (emp 𝓤))
+      (walk 𝓤 H A W at-mem run (κs .0) (κs .1 .0) (κs .1 .1 .0) (κs .1 .1 .1 .0) (qs .0) (qs .1 .0) (qs .1 .1 .0)
+      (qs .1 .1 .1 .0) (a .0 .ptr .0) (a .0 .ptr .1) (a .0 .name) (a .0 .now) (a .1 .0) (a .1 .1 .0) (a .1 .1 .1 .0) C Λ fm known
+      (are .1 .0 .0 .1 .0)
       (are .1 .1 .0 .0 .1 .0) (are .1 .1 .1 .0 .0 .1 .0)))
 
   goes : AllGo 𝓤 H A W 4 (here.signature .params) (here.ended .kept) stayed
-  goes = (goes-ref 𝓤 H A W 4 0 tt (plain (λ _. T.the-row)), (goes-gave-slice 𝓤 H A W 4 1 tt (plain (λ _. u64)), (goes-gave-slice 𝓤 H A W 4 2 tt (plain (λ _. u16)), (goes-dropped 𝓤 H A W 4 (shrSliceOf (3 ∷ []) tt (plain (λ _. u8))) yes (λ κs x f. refl), tt))))
+  goes = (
+    goes-ref 𝓤 H A W 4 0 tt (plain (λ _. T.the-row)),
+    (
+      goes-gave-slice 𝓤 H A W 4 1 tt (plain (λ _. u64)),
+      (
+        goes-gave-slice 𝓤 H A W 4 2 tt (plain (λ _. u16)),
+        (goes-dropped 𝓤 H A W 4 (shrSliceOf (3 ∷ []) tt (plain (λ _. u8))) yes (λ κs x f. refl), tt),
+      ),
+    ),
+  )
 
-  meets : (𝓣 : Tables 𝓤 H) → Triple 𝓤 (𝓣 .C #callee) (Callee 𝓤 H A at-mem run) → Meets 𝓤 H A here.signature (WpFn 𝓤 H (𝓣 .C) (𝓣 .Λ) code.function)
+  meets : (𝓣 : Tables 𝓤 H) → Triple 𝓤 (𝓣 .C #callee) (Callee 𝓤 H A at-mem run)
+      → Meets 𝓤 H A here.signature (WpFn 𝓤 H (𝓣 .C) (𝓣 .Λ) code.function)
       (here.spec 𝓤 H A at-mem run)
   meets 𝓣 known = walk-meets 𝓤 H A here.ended stayed W goes (here.clauses 𝓤 H A at-mem run) (WpFn 𝓤 H (𝓣 .C) (𝓣 .Λ) code.function)
       (WpFn-mono 𝓤 H (W .laws) 𝓣 code.function) (walks (𝓣 .C) (𝓣 .Λ) (fmOf 𝓤 H (W .laws) 𝓣) known)
@@ -211,4 +252,5 @@ receive-spec 𝓤 H 𝓜 𝓖 𝓡 =
     entered 𝓤 H (tripleOf 𝓤 H (𝓖 .A) here.signature (here.spec 𝓤 H (𝓖 .A) (𝓜 .mem) (𝓡 .run))) (tables 𝓤 H 𝓜 𝓡 code.env .C)
     (tables 𝓤 H 𝓜 𝓡 code.env .Λ) #here code.function (code.unfolded 𝓤 H 𝓜 𝓡)
     (meets 𝓤 H (𝓖 .A) (givenOf 𝓤 H 𝓜 𝓖) (𝓜 .mem) (𝓡 .run) (tablesOf 𝓤 H 𝓜 (tables 𝓤 H 𝓜 𝓡 code.env))
-    (cited 𝓤 H (Callee 𝓤 H (𝓖 .A) (𝓜 .mem) (𝓡 .run)) 𝓜 𝓡 code.env #callee callee-def.routine code.calls-calls·receive (callee-thm.met 𝓤 H 𝓜 𝓖 𝓡)))
+    (cited 𝓤 H (Callee 𝓤 H (𝓖 .A) (𝓜 .mem) (𝓡 .run)) 𝓜 𝓡 code.env #callee callee-def.routine code.calls-calls·receive
+    (callee-thm.met 𝓤 H 𝓜 𝓖 𝓡)))

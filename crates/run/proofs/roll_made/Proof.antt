@@ -61,7 +61,8 @@ returns-2 c =
     let done = c .before .before .before .before in
     let ran = done .before .before .before .before .before .before .before .before .before in
     let placed = ran .before .before .before .before .before .before .before in
-    made-whole _ _ _ (placed .before .before .is-none-made .ensures) _ (placed .before .if1 .left) _ (placed .body-place .ensures .0) _ (ran .before .before .before .before .opened .ensures) _ _ _ _ _ (ran .run-events .ensures) _ _ (done .act-in .ensures)
+    made-whole _ _ _ (placed .before .before .is-none-made .ensures) _ (placed .before .if1 .left) _ (placed .body-place .ensures .0) _
+    (ran .before .before .before .before .opened .ensures) _ _ _ _ _ (ran .run-events .ensures) _ _ (done .act-in .ensures)
 
 pub roll-made-spec : {M : Type 1} → statement M
 roll-made-spec =

@@ -35,7 +35,10 @@ opened-requires c κs =
 run-events-requires : tie.Need-run-events-requires
 run-events-requires c κs =
     let tested = c .before .before .before .before .before .before in (
-      (page-shaped _ _ _ _ _ (tested .before .is-no-page .ensures) (tested .if1 .left), page-calls _ _ _ _ _ (tested .before .is-no-page .ensures) (tested .if1 .left)),
+      (
+        page-shaped _ _ _ _ _ (tested .before .is-no-page .ensures) (tested .if1 .left),
+        page-calls _ _ _ _ _ (tested .before .is-no-page .ensures) (tested .if1 .left),
+      ),
       room-silent _ _,
     )
 
@@ -44,7 +47,8 @@ support-requires c κs = search needs
 
 put-page-requires : tie.Need-put-page-requires
 put-page-requires c κs =
-    let tested = c .before .before .before .before .before .before .before .before .before .before .before .before .before .before .before .before .before .before in
+    let tested = c .before .before .before .before .before .before .before .before .before .before .before .before .before .before .before
+    .before .before .before in
     let room = page-room _ _ _ _ _ (tested .before .is-no-page .ensures) (tested .if1 .left) in
     (omega arith, search counts-few)
 
@@ -62,7 +66,9 @@ returns-2 c =
     let shown = c .before .before in
     let ran = shown .before .before .before .before .before .before .before .before .before .before .before .before in
     let tested = ran .before .before .before .before .before .before .before in
-    page-whole _ _ _ _ _ (tested .before .is-no-page .ensures) (tested .if1 .left) _ (ran .before .before .before .before .opened .ensures) _ _ _ _ _ (ran .run-events .ensures) _ (shown .before .before .support .ensures) _ _ (shown .put-page .ensures .0)
+    page-whole _ _ _ _ _ (tested .before .is-no-page .ensures) (tested .if1 .left) _
+    (ran .before .before .before .before .opened .ensures) _ _ _ _ _ (ran .run-events .ensures) _
+    (shown .before .before .support .ensures) _ _ (shown .put-page .ensures .0)
 
 pub roll-page-spec : {M : Type 1} → statement M
 roll-page-spec =

@@ -70,8 +70,10 @@ slice-aggregate-run-events-2 : tie.Need-slice-aggregate-run-events-2
 slice-aggregate-run-events-2 c = search needs
 
 run-events-requires : tie.Need-run-events-requires
-run-events-requires c κs =
-    ((search shaped, search needs), room-first _ _ (c .before .before .before .before .before .before .put-first-line .ensures .1) (omega arith))
+run-events-requires c κs = (
+  (search shaped, search needs),
+  room-first _ _ (c .before .before .before .before .before .before .put-first-line .ensures .1) (omega arith),
+)
 
 same-length-3 : tie.Need-same-length-3
 same-length-3 c = search needs
@@ -81,8 +83,11 @@ returns-4 c =
     let ran = c .before .before .before .before in
     let first = ran .before .before .before .before .before .before .before in
     let tested = first .before .before .before .before .before in
-    text-whole _ _ (tested .before .before .before .before .before .before .if1 .left) _ (tested .before .before .before .before .before .is-misshapen .ensures) _ _ (tested .before .before .before .before .if2 .left) _ (tested .before .is-shut .ensures) (tested .if3 .left)
-    _ (first .before .before .opened .ensures) _ _ (first .put-first-line .ensures .0) _ (ran .before .before .before .before .events-of .ensures .0) _ _ _ (ran .run-events .ensures)
+    text-whole _ _ (tested .before .before .before .before .before .before .if1 .left) _
+    (tested .before .before .before .before .before .is-misshapen .ensures) _ _ (tested .before .before .before .before .if2 .left) _
+    (tested .before .is-shut .ensures) (tested .if3 .left)
+    _ (first .before .before .opened .ensures) _ _ (first .put-first-line .ensures .0) _
+    (ran .before .before .before .before .events-of .ensures .0) _ _ _ (ran .run-events .ensures)
 
 pub roll-text-spec : {M : Type 1} → statement M
 roll-text-spec =

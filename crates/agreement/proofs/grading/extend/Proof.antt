@@ -12,7 +12,8 @@ use Rattle.agreement.proofs.grading.majority_sender.Reads as majority-s
 use Rattle.agreement.proofs.sets.size.Reads as size-reads
 
 abbrev Inv-loop : tie.InvT-loop
-Inv-loop names counts lengths may base all followers₀ who₀ l₀ followers who l = ((l ≤ mostBlocks) × (who < mostSenders)) × (Extending names counts base lengths followers₀ all × Following names counts base lengths followers₀ all who l followers)
+Inv-loop names counts lengths may base all followers₀ who₀ l₀ followers who l = ((l ≤ mostBlocks) × (who < mostSenders)) ×
+    (Extending names counts base lengths followers₀ all × Following names counts base lengths followers₀ all who l followers)
 
 abbrev μ-loop : tie.MeasureT-loop
 μ-loop names counts lengths may base all followers₀ who₀ l₀ followers who l = mostBlocks - l
@@ -84,7 +85,11 @@ cast-t24 : tie.Need-cast-t24 Inv-loop μ-loop
 cast-t24 c = search needs
 
 returns : tie.Need-returns Inv-loop μ-loop
-returns c = top-majority _ _ _ _ _ _ _ _ _ (c .before .before .before .before .before .before .before .before .before .before .before .loop .inv .1 .1) (c .before .before .before .before .before .before .before .before .before .before .before .loop .inv .1 .0) _ _ _ (c .before .before .before .majority-sender .ensures) (c .before .before .narrow2 .ensures) (c .before .size3 .ensures .0) (c .if3 .left) (search needs) (search needs)
+returns c = top-majority _ _ _ _ _ _ _ _ _
+    (c .before .before .before .before .before .before .before .before .before .before .before .loop .inv .1 .1)
+    (c .before .before .before .before .before .before .before .before .before .before .before .loop .inv .1 .0) _ _ _
+    (c .before .before .before .majority-sender .ensures) (c .before .before .narrow2 .ensures) (c .before .size3 .ensures .0)
+    (c .if3 .left) (search needs) (search needs)
 
 cast-t25 : tie.Need-cast-t25 Inv-loop μ-loop
 cast-t25 c = search needs

@@ -20,7 +20,9 @@ mul-if1 : tie.Need-mul-if1
 mul-if1 c = search needs
 
 extend-requires : tie.Need-extend-requires
-extend-requires c κs = extend-asks _ _ _ _ _ _ _ _ _ _ (c .before .before .before .in-both .ensures) (c .before .before .senders .ensures .0) (c .before .size .ensures .0) (search needs) (c .if1 .taken)
+extend-requires c κs =
+    extend-asks _ _ _ _ _ _ _ _ _ _ (c .before .before .before .in-both .ensures) (c .before .before .senders .ensures .0)
+    (c .before .size .ensures .0) (search needs) (c .if1 .taken)
 
 returns : tie.Need-returns
 returns c = search find-found

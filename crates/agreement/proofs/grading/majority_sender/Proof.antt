@@ -9,7 +9,9 @@ use Rattle.agreement.proofs.grading.majority_sender.Tie as tie
 use Rattle.agreement.proofs.grading.same_next.Reads as same-next-reads
 
 abbrev Inv-loop : tie.InvT-loop
-Inv-loop names counts followers base l who best₀ weight₀ left₀ j₀ best weight left j = ((((j ≤ mostSenders) × (best < mostSenders)) × (weight ≤ j)) × Walks followers j left) × Leads names counts base followers l who j best weight
+Inv-loop names counts followers base l who best₀ weight₀ left₀ j₀ best weight left j =
+    ((((j ≤ mostSenders) × (best < mostSenders)) × (weight ≤ j)) × Walks followers j left) × Leads names counts base followers l who j best
+    weight
 
 abbrev μ-loop : tie.MeasureT-loop
 μ-loop names counts followers base l who best₀ weight₀ left₀ j₀ best weight left j = left

@@ -7,7 +7,8 @@ use Rattle.agreement.proofs.grading.goes_on.Reads as goes-on-reads
 use Rattle.agreement.proofs.sets.with_sender.Reads as with-sender-reads
 
 abbrev Inv-loop : tie.InvT-loop
-Inv-loop names counts lengths followers base l c a name count next₀ left₀ i₀ next left i = Narrowing names counts lengths followers base l c name count i left next
+Inv-loop names counts lengths followers base l c a name count next₀ left₀ i₀ next left i =
+    Narrowing names counts lengths followers base l c name count i left next
 
 abbrev μ-loop : tie.MeasureT-loop
 μ-loop names counts lengths followers base l c a name count next₀ left₀ i₀ next left i = left

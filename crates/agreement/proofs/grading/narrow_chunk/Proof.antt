@@ -7,7 +7,8 @@ use Rattle.agreement.proofs.grading.chunk_goes_on.Reads as chunk-goes-o
 use Rattle.agreement.proofs.sets.with_sender.Reads as with-sender-reads
 
 abbrev Inv-loop : tie.InvT-loop
-Inv-loop names counts lengths followers base l c a next₀ left₀ i₀ next left i = Running names counts lengths followers base l c a i left next
+Inv-loop names counts lengths followers base l c a next₀ left₀ i₀ next left i =
+    Running names counts lengths followers base l c a i left next
 
 abbrev μ-loop : tie.MeasureT-loop
 μ-loop names counts lengths followers base l c a next₀ left₀ i₀ next left i = left

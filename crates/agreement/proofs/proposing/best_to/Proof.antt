@@ -28,13 +28,24 @@ cast-t19 : tie.Need-cast-t19
 cast-t19 c = search needs
 
 returns : tie.Need-returns
-returns c = best-wins (c .before .before .before .before .before .before .before .before .args .lengths .now) (c .before .before .before .before .before .before .before .before .args .priorities .now) _ _ _ _ _ (c .before .before .before .before .before .before .before .before .args .best) (c .before .before .before .before .before .before .before .before .args .i) (search needs) _ _ (c .before .before .wide .ensures .0) (c .before .is-prefix .ensures) _ (c .before .before .before .before .before .beats .ensures) (c .before .before .before .before .if1 .taken) (c .if2 .taken)
+returns c = best-wins (c .before .before .before .before .before .before .before .before .args .lengths .now)
+    (c .before .before .before .before .before .before .before .before .args .priorities .now) _ _ _ _ _
+    (c .before .before .before .before .before .before .before .before .args .best)
+    (c .before .before .before .before .before .before .before .before .args .i) (search needs) _ _ (c .before .before .wide .ensures .0)
+    (c .before .is-prefix .ensures) _ (c .before .before .before .before .before .beats .ensures)
+    (c .before .before .before .before .if1 .taken) (c .if2 .taken)
 
 returns-2 : tie.Need-returns-2
-returns-2 c = best-unfit (c .before .before .before .before .before .before .before .before .args .lengths .now) (c .before .before .before .before .before .before .before .before .args .priorities .now) _ _ _ _ _ (c .before .before .before .before .before .before .before .before .args .best) (c .before .before .before .before .before .before .before .before .args .i) (search needs) _ _ (c .before .before .wide .ensures .0) (c .before .is-prefix .ensures) (c .if2 .left)
+returns-2 c = best-unfit (c .before .before .before .before .before .before .before .before .args .lengths .now)
+    (c .before .before .before .before .before .before .before .before .args .priorities .now) _ _ _ _ _
+    (c .before .before .before .before .before .before .before .before .args .best)
+    (c .before .before .before .before .before .before .before .before .args .i) (search needs) _ _ (c .before .before .wide .ensures .0)
+    (c .before .is-prefix .ensures) (c .if2 .left)
 
 returns-3 : tie.Need-returns-3
-returns-3 c = best-loses (c .before .before .before .before .args .lengths .now) (c .before .before .before .before .args .priorities .now) _ _ _ _ _ (c .before .before .before .before .args .best) (c .before .before .before .before .args .i) (search needs) _ (c .before .beats .ensures) (c .if1 .left)
+returns-3 c = best-loses (c .before .before .before .before .args .lengths .now)
+    (c .before .before .before .before .args .priorities .now) _ _ _ _ _ (c .before .before .before .before .args .best)
+    (c .before .before .before .before .args .i) (search needs) _ (c .before .beats .ensures) (c .if1 .left)
 
 pub best-to-spec : {M : Type 1} → statement M
 best-to-spec =

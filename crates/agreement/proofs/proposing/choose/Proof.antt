@@ -7,7 +7,8 @@ use Rattle.agreement.proofs.room.lacks_room.Reads as lacks-room-reads
 use Rattle.agreement.proofs.sets.in_first.Reads as in-first-reads
 
 abbrev Inv-loop : tie.InvT-loop
-Inv-loop lengths priorities names counts base a k best₀ left₀ i₀ best left i = Choosing lengths priorities names counts base a k left₀ i left best
+Inv-loop lengths priorities names counts base a k best₀ left₀ i₀ best left i =
+    Choosing lengths priorities names counts base a k left₀ i left best
 
 abbrev μ-loop : tie.MeasureT-loop
 μ-loop lengths priorities names counts base a k best₀ left₀ i₀ best left i = left

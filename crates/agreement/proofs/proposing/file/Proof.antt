@@ -13,7 +13,8 @@ returns : tie.Need-returns
 returns c = search proposal-unfit
 
 file-fit-requires : tie.Need-file-fit-requires
-file-fit-requires c κs = fit-by _ _ _ _ _ _ (c .before .before .before .before .before .unfit .ensures) (c .before .before .before .before .if1 .left)
+file-fit-requires c κs =
+    fit-by _ _ _ _ _ _ (c .before .before .before .before .before .unfit .ensures) (c .before .before .before .before .if1 .left)
 
 same-length : tie.Need-same-length
 same-length c = search needs

@@ -16,7 +16,8 @@ same-length-2 : tie.Need-same-length-2
 same-length-2 c = search needs
 
 returns : tie.Need-returns
-returns c = stored-filed _ _ _ _ _ (c .before .before .before .before .before .before .before .before .before .before .before .pre) _ _ _ _ (c .before .before .before .before .before .before .before .place-of .ensures) (c .before .before .before .before .file .ensures)
+returns c = stored-filed _ _ _ _ _ (c .before .before .before .before .before .before .before .before .before .before .before .pre) _ _ _ _
+    (c .before .before .before .before .before .before .before .place-of .ensures) (c .before .before .before .before .file .ensures)
 
 pub store-log-spec : {M : Type 1} → statement M
 store-log-spec =

@@ -50,7 +50,8 @@ loop-again c =
     let args = c .before .before .before .before .before .before .before .before .args in
     let loop = c .before .before .before .before .before .before .before .loop in (
       search needs,
-      rows-next (args .a .now) (args .b .now) (args .c .now) _ _ _ _ _ _ _ (loop .inv .1) (c .before .before .larger .ensures) (c .before .larger2 .ensures)
+      rows-next (args .a .now) (args .b .now) (args .c .now) _ _ _ _ _ _ _ (loop .inv .1) (c .before .before .larger .ensures)
+          (c .before .larger2 .ensures)
           (c .wide .ensures .0) refl,
     )
 

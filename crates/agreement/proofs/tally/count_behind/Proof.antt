@@ -13,7 +13,8 @@ use Rattle.agreement.proofs.tally.added.Reads as added-reads
 use Rattle.agreement.proofs.tally.is_behind.Reads as is-behind-reads
 
 abbrev Inv-loop : tie.InvT-loop
-Inv-loop g lengths names counts base among a k n₀ j₀ n j = ((j ≤ mostSenders) × (n ≤ j)) × (n ≡ count j (backs names counts base (agreementFrom g lengths) among a k))
+Inv-loop g lengths names counts base among a k n₀ j₀ n j = ((j ≤ mostSenders) × (n ≤ j)) ×
+    (n ≡ count j (backs names counts base (agreementFrom g lengths) among a k))
 
 abbrev μ-loop : tie.MeasureT-loop
 μ-loop g lengths names counts base among a k n₀ j₀ n j = mostSenders - j

@@ -32,7 +32,11 @@ loop-less : tie.Need-loop-less Inv-loop μ-loop
 loop-less c = search needs
 
 loop-again : tie.Need-loop-again Inv-loop μ-loop
-loop-again c = (search needs, over-next (c .before .before .before .before .args .row .now) _ _ _ _ _ (c .before .before .before .loop .inv .1) (c .wide .ensures .0) refl)
+loop-again c = (
+  search needs,
+  over-next (c .before .before .before .before .args .row .now) _ _ _ _ _ (c .before .before .before .loop .inv .1)
+      (c .wide .ensures .0) refl,
+)
 
 returns : tie.Need-returns Inv-loop μ-loop
 returns c = search some-all

@@ -59,7 +59,9 @@ returns-3 : tie.Need-returns-3
 returns-3 c =
     let decision = c .before .before .before .before .before .before .before in
     let start = decision .before .before .before .before .before .before .before .before .before .before .before .before in
-    decided (start .args .h) _ _ _ _ _ _ _ _ _ _ (decision .before .before .before .before .before .before .before .before .beat-of .ensures) _ _ _ _ _ _ (decision .before .before .before .before .before .if3 .taken) (decision .decide .ensures) (c .snap-view .ensures)
+    decided (start .args .h) _ _ _ _ _ _ _ _ _ _
+    (decision .before .before .before .before .before .before .before .before .beat-of .ensures) _ _ _ _ _ _
+    (decision .before .before .before .before .before .if3 .taken) (decision .decide .ensures) (c .snap-view .ensures)
 
 snap-view-requires-2 : tie.Need-snap-view-requires-2
 snap-view-requires-2 c κs = search needs

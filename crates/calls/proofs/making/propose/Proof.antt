@@ -48,7 +48,10 @@ make-proposal-requires : tie.Need-make-proposal-requires
 make-proposal-requires c κs =
     let found = c .before .before .before .before .before .before .before .before .before .before in
     let start = found .before .before .before .before .before .before .before in
-    propose-making _ _ _ _ _ _ _ _ _ (start .args .name) (found .before .before .before .if1 .left) _ (found .used .ensures) _ _ _ (c .before .before .before .before .before .before .before .before .i .given .1) (c .before .before .before .before .before .place-before .ensures) (c .before .before .before .before .before .before .if2 .left) (start .pre)
+    propose-making _ _ _ _ _ _ _ _ _ (start .args .name) (found .before .before .before .if1 .left) _ (found .used .ensures) _ _ _
+    (c .before .before .before .before .before .before .before .before .i .given .1)
+    (c .before .before .before .before .before .place-before .ensures) (c .before .before .before .before .before .before .if2 .left)
+    (start .pre)
 
 same-length-5 : tie.Need-same-length-5
 same-length-5 c = search needs
@@ -63,7 +66,10 @@ returns-4 : tie.Need-returns-4
 returns-4 c =
     let made = c .before .before .before .before .before .before in
     let found = made .before .before .before .before .before .before .before .before .before .before .before in
-    propose-acts _ _ _ _ _ _ _ _ _ _ _ _ (found .before .before .before .if1 .left) _ (found .used .ensures) _ _ (made .before .before .before .before .before .before .before .before .before .i .given .1) _ (made .before .before .before .before .before .before .place-before .ensures) (made .before .before .before .before .before .before .before .if2 .left)
+    propose-acts _ _ _ _ _ _ _ _ _ _ _ _ (found .before .before .before .if1 .left) _ (found .used .ensures) _ _
+    (made .before .before .before .before .before .before .before .before .before .i .given .1) _
+    (made .before .before .before .before .before .before .place-before .ensures)
+    (made .before .before .before .before .before .before .before .if2 .left)
     _ _ _ _ _ _ (made .make-proposal .ensures)
 
 pub propose-spec : {M : Type 1} → statement M

@@ -32,7 +32,8 @@ make-log-requires : tie.Need-make-log-requires
 make-log-requires c κs =
     let found = c .before .before .before .before .before .before .before .before in
     let start = found .before .before .before .before .before .before .before .before .before in
-    vote-making _ _ _ _ _ _ _ _ _ _ (found .before .before .before .before .before .if1 .left) (found .ballot .ensures) _ _ (c .before .before .before .before .before .before .at .given .1) (start .pre)
+    vote-making _ _ _ _ _ _ _ _ _ _ (found .before .before .before .before .before .if1 .left) (found .ballot .ensures) _ _
+    (c .before .before .before .before .before .before .at .given .1) (start .pre)
 
 same-length-3 : tie.Need-same-length-3
 same-length-3 c = search needs
@@ -47,7 +48,8 @@ returns-3 : tie.Need-returns-3
 returns-3 c =
     let made = c .before .before .before .before .before .before in
     let found = made .before .before .before .before .before .before .before .before .before in
-    vote-acts _ _ _ _ _ _ _ _ _ _ (found .before .before .before .before .before .if1 .left) (found .ballot .ensures) _ _ (made .before .before .before .before .before .before .before .at .given .1) _ _ _ _ _ _ (made .make-log .ensures)
+    vote-acts _ _ _ _ _ _ _ _ _ _ (found .before .before .before .before .before .if1 .left) (found .ballot .ensures) _ _
+    (made .before .before .before .before .before .before .before .at .given .1) _ _ _ _ _ _ (made .make-log .ensures)
 
 pub vote-spec : {M : Type 1} → statement M
 vote-spec =

@@ -51,7 +51,9 @@ returns-4 c = search act-by-22
 act-at-requires : tie.Need-act-at-requires
 act-at-requires c κs =
     let tested = c .before .before .before .before .before .before .before .before .before in
-    act-tested _ _ _ _ _ _ _ _ _ (tested .before .before .before .before .before .before .is-beyond .ensures) (tested .before .before .before .before .before .if1 .left) _ (tested .before .before .is-short .ensures) (tested .before .if2 .left) (tested .if3 .left)
+    act-tested _ _ _ _ _ _ _ _ _ (tested .before .before .before .before .before .before .is-beyond .ensures)
+    (tested .before .before .before .before .before .if1 .left) _ (tested .before .before .is-short .ensures)
+    (tested .before .if2 .left) (tested .if3 .left)
 
 same-length-7 : tie.Need-same-length-7
 same-length-7 c = search needs
@@ -66,8 +68,11 @@ returns-5 : tie.Need-returns-5
 returns-5 c =
     let done = c .before .before .before .before .before .before in
     let tested = done .before .before .before .before .before .before .before .before .before .before in
-    acts-by _ _ _ _ _ _ _ _ _ _ _ (tested .before .before .before .before .before .before .is-beyond .ensures) (tested .before .before .before .before .before .if1 .left) _ (tested .before .before .is-short .ensures) (tested .before .if2 .left) (tested .if3 .left)
-    _ (done .before .before .before .before .before .before .before .before .before .is-idle .ensures) _ _ _ _ _ (done .before .before .before .before .before .before .before .before .if4 .left) (done .act-at .ensures)
+    acts-by _ _ _ _ _ _ _ _ _ _ _ (tested .before .before .before .before .before .before .is-beyond .ensures)
+    (tested .before .before .before .before .before .if1 .left) _ (tested .before .before .is-short .ensures)
+    (tested .before .if2 .left) (tested .if3 .left)
+    _ (done .before .before .before .before .before .before .before .before .before .is-idle .ensures) _ _ _ _ _
+    (done .before .before .before .before .before .before .before .before .if4 .left) (done .act-at .ensures)
 
 pub act-spec : {M : Type 1} → statement M
 act-spec =

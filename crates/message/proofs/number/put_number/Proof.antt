@@ -9,7 +9,8 @@ use Rattle.message.proofs.number.put_number.Statement.{statement}
 use Rattle.message.proofs.number.put_number.Tie as tie
 
 abbrev Inv-loop : tie.InvT-loop
-Inv-loop out₀ at₀ x₀ w₀ out at x w = (at + w ≤ length out) × (length out ≡ length out₀) × (put out₀ at₀ (bytesFor w₀ x₀) ≡ put out at (bytesFor w x))
+Inv-loop out₀ at₀ x₀ w₀ out at x w = (at + w ≤ length out) × (length out ≡ length out₀) ×
+    (put out₀ at₀ (bytesFor w₀ x₀) ≡ put out at (bytesFor w x))
 
 abbrev μ-loop : tie.MeasureT-loop
 μ-loop out₀ at₀ x₀ w₀ out at x w = w
@@ -33,7 +34,11 @@ loop-less : tie.Need-loop-less Inv-loop μ-loop
 loop-less c = search needs
 
 loop-again : tie.Need-loop-again Inv-loop μ-loop
-loop-again c = (simp length-set (omega arith), simp length-set (omega arith), c .before .loop .inv .2 ∙ put-byte _ _ _ _ (c .loop-test .taken))
+loop-again c = (
+  simp length-set (omega arith),
+  simp length-set (omega arith),
+  c .before .loop .inv .2 ∙ put-byte _ _ _ _ (c .loop-test .taken),
+)
 
 same-length : tie.Need-same-length Inv-loop μ-loop
 same-length c = search needs

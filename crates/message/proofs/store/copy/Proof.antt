@@ -6,7 +6,9 @@ use Rattle.message.proofs.store.copy.Statement.{statement}
 use Rattle.message.proofs.store.copy.Tie as tie
 
 abbrev Inv-loop : tie.InvT-loop
-Inv-loop names₀ counts₀ a₀ b₀ k₀ names counts a b k = Copying b₀ names₀ (put names₀ b₀ (part names₀ a₀ k₀)) names a b k × Copying b₀ counts₀ (put counts₀ b₀ (part counts₀ a₀ k₀)) counts a b k
+Inv-loop names₀ counts₀ a₀ b₀ k₀ names counts a b k =
+    Copying b₀ names₀ (put names₀ b₀ (part names₀ a₀ k₀)) names a b k × Copying b₀ counts₀
+    (put counts₀ b₀ (part counts₀ a₀ k₀)) counts a b k
 
 abbrev μ-loop : tie.MeasureT-loop
 μ-loop names₀ counts₀ a₀ b₀ k₀ names counts a b k = k
@@ -57,7 +59,10 @@ loop-less : tie.Need-loop-less Inv-loop μ-loop
 loop-less c = search needs
 
 loop-again : tie.Need-loop-again Inv-loop μ-loop
-loop-again c = (copy-next (c .before .before .before .loop .inv .0) (c .before .before .loop-test .taken), copy-next (c .before .before .before .loop .inv .1) (c .before .before .loop-test .taken))
+loop-again c = (
+  copy-next (c .before .before .before .loop .inv .0) (c .before .before .loop-test .taken),
+  copy-next (c .before .before .before .loop .inv .1) (c .before .before .loop-test .taken),
+)
 
 same-length : tie.Need-same-length Inv-loop μ-loop
 same-length c = search needs
@@ -66,10 +71,14 @@ same-length-2 : tie.Need-same-length-2 Inv-loop μ-loop
 same-length-2 c = search needs
 
 returns : tie.Need-returns Inv-loop μ-loop
-returns c = copy-done _ _ _ _ _ _ _ (c .before .before .before .before .fits2 .ensures) (c .before .before .before .is-within .ensures) _ _ (c .before .before .if1 .taken) (copy-end (c .before .loop .inv .0) (c .loop-test .left)) (copy-end (c .before .loop .inv .1) (c .loop-test .left))
+returns c = copy-done _ _ _ _ _ _ _ (c .before .before .before .before .fits2 .ensures) (c .before .before .before .is-within .ensures) _ _
+    (c .before .before .if1 .taken) (copy-end (c .before .loop .inv .0) (c .loop-test .left))
+    (copy-end (c .before .loop .inv .1) (c .loop-test .left))
 
 returns-2 : tie.Need-returns-2 Inv-loop μ-loop
-returns-2 c = copy-outside _ _ (c .before .before .before .before .before .args .a) (c .before .before .before .before .before .args .b) (c .before .before .before .before .before .args .k) _ _ (c .before .before .fits2 .ensures) (c .before .is-within .ensures) (c .if1 .left)
+returns-2 c = copy-outside _ _ (c .before .before .before .before .before .args .a) (c .before .before .before .before .before .args .b)
+    (c .before .before .before .before .before .args .k) _ _ (c .before .before .fits2 .ensures) (c .before .is-within .ensures)
+    (c .if1 .left)
 
 pub copy-spec : {M : Type 1} → statement M
 copy-spec =

@@ -20,10 +20,22 @@ is-within-requires : tie.Need-is-within-requires
 is-within-requires c κs = search needs
 
 file-names-requires : tie.Need-file-names-requires
-file-names-requires c κs = asks-names (file-asks (c .before .before .before .before .before .before .before .before .args .names .now) (c .before .before .before .before .before .before .before .before .args .counts .now) _ (c .before .before .before .before .before .before .before .before .args .bytes .now) _ (c .before .before .before .before .count-in .ensures .0) _ _ (c .before .before .before .holds-log .ensures) (c .before .before .is-within .ensures) (c .before .if1 .taken))
+file-names-requires c κs =
+    asks-names (file-asks (c .before .before .before .before .before .before .before .before .args .names .now)
+    (c .before .before .before .before .before .before .before .before .args .counts .now) _
+    (c .before .before .before .before .before .before .before .before .args .bytes .now) _
+    (c .before .before .before .before .count-in .ensures .0) _ _ (c .before .before .before .holds-log .ensures)
+    (c .before .before .is-within .ensures) (c .before .if1 .taken))
 
 file-counts-requires : tie.Need-file-counts-requires
-file-counts-requires c κs = asks-counts (file-asks (c .before .before .before .before .before .before .before .before .before .before .before .before .args .names .now) (c .before .before .before .before .before .before .before .before .before .before .before .before .args .counts .now) _ (c .before .before .before .before .before .before .before .before .before .before .before .before .args .bytes .now) _ (c .before .before .before .before .before .before .before .before .count-in .ensures .0) _ _ (c .before .before .before .before .before .before .before .holds-log .ensures) (c .before .before .before .before .before .before .is-within .ensures) (c .before .before .before .before .before .if1 .taken))
+file-counts-requires c κs =
+    asks-counts (file-asks
+    (c .before .before .before .before .before .before .before .before .before .before .before .before .args .names .now)
+    (c .before .before .before .before .before .before .before .before .before .before .before .before .args .counts .now) _
+    (c .before .before .before .before .before .before .before .before .before .before .before .before .args .bytes .now) _
+    (c .before .before .before .before .before .before .before .before .count-in .ensures .0) _ _
+    (c .before .before .before .before .before .before .before .holds-log .ensures)
+    (c .before .before .before .before .before .before .is-within .ensures) (c .before .before .before .before .before .if1 .taken))
 
 same-length : tie.Need-same-length
 same-length c = search needs
@@ -32,10 +44,17 @@ same-length-2 : tie.Need-same-length-2
 same-length-2 c = search needs
 
 returns : tie.Need-returns
-returns c = file-done _ _ _ _ _ (c .before .before .before .before .before .before .before .before .before .before .before .count-in .ensures .0) _ _ (c .before .before .before .before .before .before .before .before .before .before .holds-log .ensures) (c .before .before .before .before .before .before .before .before .before .is-within .ensures) _ _ (c .before .before .before .before .before .before .before .before .if1 .taken) (c .before .before .before .before .before .before .file-names .ensures) (c .before .before .file-counts .ensures)
+returns c = file-done _ _ _ _ _
+    (c .before .before .before .before .before .before .before .before .before .before .before .count-in .ensures .0) _ _
+    (c .before .before .before .before .before .before .before .before .before .before .holds-log .ensures)
+    (c .before .before .before .before .before .before .before .before .before .is-within .ensures) _ _
+    (c .before .before .before .before .before .before .before .before .if1 .taken)
+    (c .before .before .before .before .before .before .file-names .ensures) (c .before .before .file-counts .ensures)
 
 returns-2 : tie.Need-returns-2
-returns-2 c = file-outside _ _ _ (c .before .before .before .before .before .before .before .args .bytes .now) _ (c .before .before .before .count-in .ensures .0) _ _ (c .before .before .holds-log .ensures) (c .before .is-within .ensures) (c .if1 .left)
+returns-2 c = file-outside _ _ _ (c .before .before .before .before .before .before .before .args .bytes .now) _
+    (c .before .before .before .count-in .ensures .0) _ _ (c .before .before .holds-log .ensures) (c .before .is-within .ensures)
+    (c .if1 .left)
 
 pub file-spec : {M : Type 1} → statement M
 file-spec =

@@ -10,13 +10,21 @@ is-within-requires-2 : tie.Need-is-within-requires-2
 is-within-requires-2 c κs = search needs
 
 shared-blocks-requires : tie.Need-shared-blocks-requires
-shared-blocks-requires c κs = prefix-asks _ _ (c .before .before .before .before .before .args .a) (c .before .before .before .before .before .args .x) (c .before .before .before .before .before .args .b) (c .before .before .before .before .before .args .y) _ _ (c .before .before .is-within .ensures) (c .before .is-within2 .ensures) (c .if1 .taken)
+shared-blocks-requires c κs =
+    prefix-asks _ _ (c .before .before .before .before .before .args .a) (c .before .before .before .before .before .args .x)
+    (c .before .before .before .before .before .args .b) (c .before .before .before .before .before .args .y) _ _
+    (c .before .before .is-within .ensures) (c .before .is-within2 .ensures) (c .if1 .taken)
 
 returns : tie.Need-returns
-returns c = prefix-is _ _ (c .before .before .before .before .before .before .args .a) (c .before .before .before .before .before .before .args .x) (c .before .before .before .before .before .before .args .b) (c .before .before .before .before .before .before .args .y) _ _ (c .before .before .before .is-within .ensures) (c .before .before .is-within2 .ensures) _ (c .before .if1 .taken) (c .shared-blocks .ensures)
+returns c = prefix-is _ _ (c .before .before .before .before .before .before .args .a)
+    (c .before .before .before .before .before .before .args .x) (c .before .before .before .before .before .before .args .b)
+    (c .before .before .before .before .before .before .args .y) _ _ (c .before .before .before .is-within .ensures)
+    (c .before .before .is-within2 .ensures) _ (c .before .if1 .taken) (c .shared-blocks .ensures)
 
 returns-2 : tie.Need-returns-2
-returns-2 c = prefix-not _ _ (c .before .before .before .before .before .args .a) (c .before .before .before .before .before .args .x) (c .before .before .before .before .before .args .b) (c .before .before .before .before .before .args .y) _ _ (c .before .before .is-within .ensures) (c .before .is-within2 .ensures) (c .if1 .left)
+returns-2 c = prefix-not _ _ (c .before .before .before .before .before .args .a) (c .before .before .before .before .before .args .x)
+    (c .before .before .before .before .before .args .b) (c .before .before .before .before .before .args .y) _ _
+    (c .before .before .is-within .ensures) (c .before .is-within2 .ensures) (c .if1 .left)
 
 pub is-prefix-spec : {M : Type 1} → statement M
 is-prefix-spec =

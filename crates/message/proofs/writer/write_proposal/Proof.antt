@@ -32,13 +32,21 @@ put-number-requires : tie.Need-put-number-requires
 put-number-requires c κs = omega (arith, block-room (c .before .before .before .before .write-first .ensures) (c .before .if2 .taken))
 
 put-number-requires-2 : tie.Need-put-number-requires-2
-put-number-requires-2 c κs = omega (arith, block-room (c .before .before .before .before .before .before .before .before .write-first .ensures) (c .before .before .before .before .before .if2 .taken))
+put-number-requires-2 c κs =
+    omega (
+      arith,
+      block-room (c .before .before .before .before .before .before .before .before .write-first .ensures)
+          (c .before .before .before .before .before .if2 .taken),
+    )
 
 same-length : tie.Need-same-length
 same-length c = search needs
 
 returns-2 : tie.Need-returns-2
-returns-2 c = proposal-done _ _ _ _ _ _ _ _ _ _ _ _ (c .before .before .before .before .before .before .before .before .before .before .before .write-first .ensures) _ _ (c .before .before .before .before .before .before .before .before .if2 .taken) (c .before .before .before .before .before .before .put-number .ensures) (c .before .before .put-number2 .ensures)
+returns-2 c = proposal-done _ _ _ _ _ _ _ _ _ _ _ _
+    (c .before .before .before .before .before .before .before .before .before .before .before .write-first .ensures) _ _
+    (c .before .before .before .before .before .before .before .before .if2 .taken)
+    (c .before .before .before .before .before .before .put-number .ensures) (c .before .before .put-number2 .ensures)
 
 same-length-2 : tie.Need-same-length-2
 same-length-2 c = search needs

@@ -20,10 +20,16 @@ use Rattle.run.proofs.form.length_at.Reads as length-at-reads
 use Rattle.run.proofs.lines.tell.Reads as tell-reads
 
 abbrev Inv-loop : tie.InvT-loop
-Inv-loop names₀ counts₀ roll calls text₀ at prints events body₀ head₀ even₀ odd₀ proposed₀ priorities₀ out₀ p₀ i₀ names counts text body head even odd proposed priorities out p i = (i ≤ calls) × (calls ≤ events) × (events ≤ 1024) × (body ≤ 4100 + 65536 * i) × (length names ≡ length names₀) × (length counts ≡ length counts₀) × (length text ≡ length text₀) × (misfits roll i body (events - i) ≡ false) × LinesFit prints i p text × Ahead prints roll calls (heldWith (benchFrom head₀ even₀ odd₀ proposed₀ priorities₀) names₀ counts₀) at text₀ i body (heldWith (benchFrom head even odd proposed priorities) names counts) p text
+Inv-loop names₀ counts₀ roll calls text₀ at prints events body₀ head₀ even₀ odd₀ proposed₀ priorities₀ out₀ p₀ i₀ names counts text body
+    head even odd proposed priorities out p i = (i ≤ calls) × (calls ≤ events) × (events ≤ 1024) × (body ≤ 4100 + 65536 * i) ×
+    (length names ≡ length names₀) × (length counts ≡ length counts₀) × (length text ≡ length text₀) ×
+    (misfits roll i body (events - i) ≡ false) × LinesFit prints i p text × Ahead prints roll calls
+    (heldWith (benchFrom head₀ even₀ odd₀ proposed₀ priorities₀) names₀ counts₀) at text₀ i body
+    (heldWith (benchFrom head even odd proposed priorities) names counts) p text
 
 abbrev μ-loop : tie.MeasureT-loop
-μ-loop names₀ counts₀ roll calls text₀ at prints events body₀ head₀ even₀ odd₀ proposed₀ priorities₀ out₀ p₀ i₀ names counts text body head even odd proposed priorities out p i = calls - i
+μ-loop names₀ counts₀ roll calls text₀ at prints events body₀ head₀ even₀ odd₀ proposed₀ priorities₀ out₀ p₀ i₀ names counts text body head
+    even odd proposed priorities out p i = calls - i
 
 events-of-requires : tie.Need-events-of-requires Inv-loop μ-loop
 events-of-requires c κs = search needs
@@ -35,7 +41,18 @@ add-body : tie.Need-add-body Inv-loop μ-loop
 add-body c = search needs
 
 loop-holds : tie.Need-loop-holds Inv-loop μ-loop
-loop-holds c = (search needs, search needs, search needs, search needs, refl, refl, refl, search fit-start, search needs, search ahead-start)
+loop-holds c = (
+  search needs,
+  search needs,
+  search needs,
+  search needs,
+  refl,
+  refl,
+  refl,
+  search fit-start,
+  search needs,
+  search ahead-start,
+)
 
 call-event-requires : tie.Need-call-event-requires Inv-loop μ-loop
 call-event-requires c κs = search lies-within
@@ -48,8 +65,11 @@ tell-requires c κs =
 
 length-at-requires : tie.Need-length-at-requires Inv-loop μ-loop
 length-at-requires c κs =
-    let given = c .before .before .before .before .before .before .before .before .before .before .before .before .before .before .before .before .before .before .before .before .before .before .before .before .before .before .before .before .before .pre .0 in
-    marked _ _ _ (given .0) (given .1) (c .before .before .before .before .before .before .before .before .before .before .before .before .before .before .before .before .before .loop-test .taken)
+    let given = c .before .before .before .before .before .before .before .before .before .before .before .before .before .before .before
+    .before .before .before .before .before .before .before .before .before .before .before .before .before .before .pre .0 in
+    marked _ _ _ (given .0) (given .1)
+    (c .before .before .before .before .before .before .before .before .before .before .before .before .before .before .before .before
+    .before .loop-test .taken)
 
 add-body-2 : tie.Need-add-body-2 Inv-loop μ-loop
 add-body-2 c = search needs
@@ -75,7 +95,8 @@ loop-again c =
       c .before .before .text .given ∙ inv .6,
       fit-next _ _ _ _ (omega arith) (search needs) _ (search needs),
       room-next _ _ _ _ (inv .8) _ _ (told .tell .ensures .1) (c .before .before .text .given),
-      ahead-next _ _ _ _ _ _ _ _ _ _ _ _ _ (inv .9) (inside .loop-test .taken) _ _ _ _ (called .call-event .ensures) _ _ (told .tell .ensures .0) _ (c .length-at .ensures .0),
+      ahead-next _ _ _ _ _ _ _ _ _ _ _ _ _ (inv .9) (inside .loop-test .taken) _ _ _ _ (called .call-event .ensures) _ _
+          (told .tell .ensures .0) _ (c .length-at .ensures .0),
     )
 
 same-length : tie.Need-same-length Inv-loop μ-loop

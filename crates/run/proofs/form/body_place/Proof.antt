@@ -10,7 +10,8 @@ use Rattle.run.proofs.form.body_place.Statement.{statement}
 use Rattle.run.proofs.form.body_place.Tie as tie
 
 abbrev Inv-loop : tie.InvT-loop
-Inv-loop roll event at₀ i₀ at i = (i ≤ event) × (event ≤ 1024) × (at ≤ 4100 + 65536 * i) × (bodyFrom roll 0 (bodiesPlace roll) event ≡ bodyFrom roll i at (event - i))
+Inv-loop roll event at₀ i₀ at i = (i ≤ event) × (event ≤ 1024) × (at ≤ 4100 + 65536 * i) ×
+    (bodyFrom roll 0 (bodiesPlace roll) event ≡ bodyFrom roll i at (event - i))
 
 abbrev μ-loop : tie.MeasureT-loop
 μ-loop roll event at₀ i₀ at i = event - i

@@ -12,7 +12,8 @@ use Rattle.run.proofs.form.is_right_body.Reads as is-right-body-reads
 use Rattle.run.proofs.form.mark_at.Reads as mark-at-reads
 
 abbrev Inv-loop : tie.InvT-loop
-Inv-loop roll events at₀ wrong₀ i₀ at wrong i = (i ≤ events) × (at ≤ 4100 + 65536 * i) × (misfits roll 0 (bodiesPlace roll) (eventsOf roll) ≡ (wrong || misfits roll i at (events - i)))
+Inv-loop roll events at₀ wrong₀ i₀ at wrong i = (i ≤ events) × (at ≤ 4100 + 65536 * i) ×
+    (misfits roll 0 (bodiesPlace roll) (eventsOf roll) ≡ (wrong || misfits roll i at (events - i)))
 
 abbrev μ-loop : tie.MeasureT-loop
 μ-loop roll events at₀ wrong₀ i₀ at wrong i = events - i

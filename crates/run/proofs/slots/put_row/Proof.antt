@@ -9,7 +9,8 @@ use Rattle.run.proofs.slots.put_row.Statement.{statement}
 use Rattle.run.proofs.slots.put_row.Tie as tie
 
 abbrev Inv-loop : tie.InvT-loop
-Inv-loop page₀ at row p₀ i₀ page p i = (i ≤ 32) × (p ≡ at + i) × (at + 32 ≤ length page) × (length page ≡ length page₀) × (put page₀ at (part row 0 32) ≡ put page p (part row i (32 - i)))
+Inv-loop page₀ at row p₀ i₀ page p i = (i ≤ 32) × (p ≡ at + i) × (at + 32 ≤ length page) × (length page ≡ length page₀) ×
+    (put page₀ at (part row 0 32) ≡ put page p (part row i (32 - i)))
 
 abbrev μ-loop : tie.MeasureT-loop
 μ-loop page₀ at row p₀ i₀ page p i = 32 - i

@@ -13,7 +13,8 @@ use Rattle.run.proofs.slots.put_set.Lts as lts
 use Rattle.agreement.proofs.sets.is_member.Reads as is-member-reads
 
 abbrev Inv-loop : tie.InvT-loop
-Inv-loop page₀ at set p₀ i₀ page p i = (i ≤ 32) × (p ≡ at + i) × (at + 32 ≤ length page) × (length page ≡ length page₀) × (put page₀ at (setBytes set) ≡ put page p (flagsFrom set i (32 - i)))
+Inv-loop page₀ at set p₀ i₀ page p i = (i ≤ 32) × (p ≡ at + i) × (at + 32 ≤ length page) × (length page ≡ length page₀) ×
+    (put page₀ at (setBytes set) ≡ put page p (flagsFrom set i (32 - i)))
 
 abbrev μ-loop : tie.MeasureT-loop
 μ-loop page₀ at set p₀ i₀ page p i = 32 - i

@@ -100,7 +100,8 @@ put-digits-returns-3 : (t : ℕ) → put-digits-lts.Need-returns-3 (
   put-digits-below t,
   put-digits.Post,
 ) (put-digits-at t) put-digits.Post
-put-digits-returns-3 t c = (digits-are-two _ _ _ _ _ _ (omega arith) (omega arith) (omega arith) (c .before .before .put-pair .ensures .0), omega arith)
+put-digits-returns-3 t c =
+    (digits-are-two _ _ _ _ _ _ (omega arith) (omega arith) (omega arith) (c .before .before .put-pair .ensures .0), omega arith)
 
 put-digits-sub-put-digits : (t : ℕ) → put-digits-lts.Need-sub-put-digits (
   put-pair-reads.Asked,
@@ -140,7 +141,11 @@ put-digits-returns-4 : (t : ℕ) → put-digits-lts.Need-returns-4 (
   put-digits-below t,
   put-digits.Post,
 ) (put-digits-at t) put-digits.Post
-put-digits-returns-4 t c = (pair-more _ _ _ _ _ _ _ _ _ (omega arith) (omega arith) (c .before .before .before .before .before .before .put-digits .ensures .0) (c .before .before .put-pair2 .ensures .0), omega arith)
+put-digits-returns-4 t c = (
+  pair-more _ _ _ _ _ _ _ _ _ (omega arith) (omega arith) (c .before .before .before .before .before .before .put-digits .ensures .0)
+      (c .before .before .put-pair2 .ensures .0),
+  omega arith,
+)
 
 pub +put-digits-spec : {M : Type 1} → statement M
 +put-digits-spec = close μ-put-digits λ t. put-digits-lts.spec (

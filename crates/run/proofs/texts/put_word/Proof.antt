@@ -9,7 +9,8 @@ use Rattle.run.proofs.texts.put_word.Statement.{statement}
 use Rattle.run.proofs.texts.put_word.Tie as tie
 
 abbrev Inv-loop : tie.InvT-loop
-Inv-loop text₀ at word p₀ i₀ text p i = (i ≤ length word) × (p ≡ at + i) × (at + length word ≤ length text) × (length text ≡ length text₀) × (put text₀ at word ≡ put text p (drop i word))
+Inv-loop text₀ at word p₀ i₀ text p i = (i ≤ length word) × (p ≡ at + i) × (at + length word ≤ length text) × (length text ≡ length text₀) ×
+    (put text₀ at word ≡ put text p (drop i word))
 
 abbrev μ-loop : tie.MeasureT-loop
 μ-loop text₀ at word p₀ i₀ text p i = length word - i

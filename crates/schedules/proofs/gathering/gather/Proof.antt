@@ -1,6 +1,7 @@
--- `gathering::gather` meets its contract: a walk of its MIR, by hand. The record stands in a local, _10, which is lent to each call and comes back at what
--- the call left. Both lists are lent to Begin as `&` and to Receive as `&mut`, and come back; Act has them, and the buffer, for good, and Receive has
--- the message. All that is known of the three callees is that each meets its contract. Positions are as in lent's LentSteps. Assumes nothing.
+-- `gathering::gather` meets its contract: a walk of its MIR, by hand. The record stands in a local, _10, which is lent to each call and
+-- comes back at what the call left. Both lists are lent to Begin as `&` and to Receive as `&mut`, and come back; Act has them, and the
+-- buffer, for good, and Receive has the message. All that is known of the three callees is that each meets its contract. Positions are as
+-- in lent's LentSteps. Assumes nothing.
 use mathlib.Core.Path.{_≡_, refl, _∙_}
 use Prim.Native.Nat.{ℕ, _<_, _^_}
 use mathlib.Core.List.{[], _∷_, List}
@@ -17,7 +18,8 @@ use prog.Wp.{Heap, Calls, Loops, WpFn, Tables}
 use ghost.Atoms.{Atoms, sem}
 use contract.Monad.{Fun, fact}
 use contract.Running.{givenOf, tables, tablesOf}
-use types.Kit.{Given, Item, mean, ⋆, ‵, raw, _⊛_, some, given, later, _$_, _∵_, !, qed, by, move, keep, drop, use1, use2, use3, split, join, group, pick, learn, fsplit, fjoin, feqL, suffices, check, show, frame, await, updating, now as at-once, done}
+use types.Kit.{Given, Item, mean, ⋆, ‵, raw, _⊛_, some, given, later, _$_, _∵_, !, qed, by, move, keep, drop, use1, use2, use3, split, join}
+use types.Kit.{group, pick, learn, fsplit, fjoin, feqL, suffices, check, show, frame, await, updating, now as at-once, done}
 use types.Run.{look, init, stop, from, load, addr, of-opd, assigns, no-more, land, returns, enter, alloc1, alloc0, params1, pass1, pass0}
 use types.Part.{agg}
 use sound.WpLaws.{FmC, fmOf, WpFn-mono}
@@ -38,7 +40,8 @@ use denote.Triple.Clauses.{ensured, lasts}
 use denote.Triple.Entry.{onEntry}
 use denote.Triple.Spec.{Meets, tripleOf}
 use denote.Triple.Table.{entered, cited}
-use denote.Triple.Walked.{says, Stays, gave-slice, stay-dropped, walkOf, AllGo, goes-gave-slice, goes-dropped, Walks, ends-at, walked, walk-meets}
+use denote.Triple.Walked.{says, Stays, gave-slice, stay-dropped, walkOf, AllGo, goes-gave-slice, goes-dropped, Walks, ends-at, walked}
+use denote.Triple.Walked.{walk-meets}
 use Rattle.bench.specs.ByRecord.{beginOf, receiveOf, actOf}
 use Rattle.bench.specs.Answers.{stateOf, BeginGives, ReceiveGives, ActGives}
 use Rattle.bench.specs.Record.{benchOf}
@@ -49,7 +52,8 @@ use Rattle.bench.specs.declared.Made.{Made}
 use Rattle.schedules.specs.declared.gathering.Gathered.{Gathered}
 use Rattle.lent.proofs.LentSteps.{benchVal, arg, lent-on}
 use Rattle.schedules.proofs.Freeing.{all-freed}
-use Rattle.schedules.proofs.Lending.{Loan, life, placed, KeptLocal, lends-local, local-back, KeptMut, KeptShr, lends-mut, mut-back, lends-shr, shr-back}
+use Rattle.schedules.proofs.Lending.{Loan, life, placed, KeptLocal, lends-local, local-back, KeptMut, KeptShr, lends-mut, mut-back}
+use Rattle.schedules.proofs.Lending.{lends-shr, shr-back}
 use Rattle.schedules.proofs.GatheringLaws.{gathered}
 use Rattle.bench.proofs.Bench as T
 use Rattle.bench.proofs.Bench.Laws as T′
@@ -82,7 +86,8 @@ use Rattle.schedules.proofs.gathering.gather.Code as code
 abbrev IsBench : Bench → Val → Type 0
 IsBench h v = Is T.the-row h (v ∷ [])
 
--- ---- what a caller has learned once a call has returned w: what the call gives, the answer's relation to w, the record's to what lies in the local, and that the lists are as long as they were
+-- ---- what a caller has learned once a call has returned w: what the call gives, the answer's relation to w, the record's to what lies in
+-- the local, and that the lists are as long as they were
 record Begun (h : Bench) (ns cs : List ℕ) (beat : ℕ) (r : Start) (h′ : Bench) (w : Val) : Type 0 where
   gives : BeginGives (beginOf (stateOf h ns cs) beat) r (benchOf h′) ns cs
   answer : Is TS.the-row r (w ∷ [])
@@ -94,7 +99,8 @@ record Took (h : Bench) (ns cs message : List ℕ) (r : Taken) (h′ : Bench) (m
   left : IsBench h′ (benchVal h′)
   longs : (length ms ≡ length ns) × (length ds ≡ length cs)
 
-record Did (h : Bench) (ns cs : List ℕ) (name count priority : ℕ) (out : List ℕ) (r : Made) (h′ : Bench) (ms ds us : List ℕ) (w : Val) : Type 0 where
+record Did (h : Bench) (ns cs : List ℕ) (name count priority : ℕ) (out : List ℕ) (r : Made) (h′ : Bench) (ms ds us : List ℕ)
+    (w : Val) : Type 0 where
   gives : ActGives (actOf (stateOf h ns cs) (record { name = name; count = count }) priority out) r (benchOf h′) ms ds us
   answer : Is TM.the-row r (w ∷ [])
   left : IsBench h′ (benchVal h′)
@@ -121,7 +127,25 @@ abbrev Arg : Type 0
 Arg = Bench × (RefT (List ℕ) × (RefT (List ℕ) × (RefT (List ℕ) × (RefT (List ℕ) × (ℕ × (ℕ × (ℕ × (ℕ × Unit {0}))))))))
 
 abbrev stayed : Stays (here.ended .signature .params) (here.ended .kept)
-stayed = (stay-dropped (plain (λ _. T.the-row)) yes, (gave-slice (0 ∷ []) tt (plain (λ _. u64)), (gave-slice (1 ∷ []) tt (plain (λ _. u16)), (gave-slice (2 ∷ []) tt (plain (λ _. u8)), (stay-dropped (shrSliceOf (3 ∷ []) tt (plain (λ _. u8))) yes, (stay-dropped (plain (λ _. u32)) yes, (stay-dropped (plain (λ _. u64)) yes, (stay-dropped (plain (λ _. u16)) yes, (stay-dropped (plain (λ _. u64)) yes, tt)))))))))
+stayed = (
+  stay-dropped (plain (λ _. T.the-row)) yes,
+  (
+    gave-slice (0 ∷ []) tt (plain (λ _. u64)),
+    (
+      gave-slice (1 ∷ []) tt (plain (λ _. u16)),
+      (
+        gave-slice (2 ∷ []) tt (plain (λ _. u8)),
+        (
+          stay-dropped (shrSliceOf (3 ∷ []) tt (plain (λ _. u8))) yes,
+          (
+            stay-dropped (plain (λ _. u32)) yes,
+            (stay-dropped (plain (λ _. u64)) yes, (stay-dropped (plain (λ _. u16)) yes, (stay-dropped (plain (λ _. u64)) yes, tt))),
+          ),
+        ),
+      ),
+    ),
+  ),
+)
 
 module _ {M : Type 1} (𝓤 : URA M) (H : Heap 𝓤) (A : Atoms 𝓤) (at-mem : Memory → SProp 𝓤) (run : Routine → Fun 𝓤) where
   -- the contracts that the proof cites
@@ -134,9 +158,12 @@ module _ {M : Type 1} (𝓤 : URA M) (H : Heap 𝓤) (A : Atoms 𝓤) (at-mem : 
   abbrev Act : Contract 𝓤
   Act = tripleOf 𝓤 H A act.signature (act.spec 𝓤 H A at-mem run)
 
--- ---- what is passed: h; the names, ns at (b₁, o₁) under γ₁ for κ₁; the counts, cs at (b₂, o₂) under γ₂ for κ₂; the buffer x₃, the message x₄, and numbers
-module _ {M : Type 1} (𝓤 : URA M) (H : Heap 𝓤) (A : Atoms 𝓤) (W : Given 𝓤 H A) (at-mem : Memory → SProp 𝓤) (run : Routine → Fun 𝓤) (κ₁ κ₂ κ₃ κ₄ : Lft)
-    (q₁ q₂ q₃ q₄ : Share) (γ₁ γ₂ : GName) (b₁ o₁ b₂ o₂ : ℕ) (ns cs : List ℕ) (x₃ x₄ : RefT (List ℕ)) (h : Bench) (beat name count priority : ℕ) where
+-- ---- what is passed: h; the names, ns at (b₁, o₁) under γ₁ for κ₁; the counts, cs at (b₂, o₂) under γ₂ for κ₂; the buffer x₃, the message
+-- x₄, and numbers
+module _ {M : Type 1} (𝓤 : URA M) (H : Heap 𝓤) (A : Atoms 𝓤) (W : Given 𝓤 H A) (at-mem : Memory → SProp 𝓤) (run : Routine → Fun 𝓤)
+    (κ₁ κ₂ κ₃ κ₄ : Lft)
+    (q₁ q₂ q₃ q₄ : Share) (γ₁ γ₂ : GName) (b₁ o₁ b₂ o₂ : ℕ) (ns cs : List ℕ) (x₃ x₄ : RefT (List ℕ)) (h : Bench)
+    (beat name count priority : ℕ) where
   abbrev s₁ : Val
   s₁ = sliceVal (b₁, o₁) (length ns)
 
@@ -177,14 +204,27 @@ module _ {M : Type 1} (𝓤 : URA M) (H : Heap 𝓤) (A : Atoms 𝓤) (W : Given
   a = (h, (names-at γ₁ ns, (counts-at γ₂ cs, (x₃, (x₄, (beat, (name, (count, (priority, tt)))))))))
 
   abbrev vals : List Val × (List Val × (List Val × (List Val × (List Val × (List Val × (List Val × (List Val × (List Val × Unit {0}))))))))
-  vals = (benchVal h ∷ [], (s₁ ∷ [], (s₂ ∷ [], (s₃ ∷ [], (s₄ ∷ [], (vint w32 beat ∷ [], (vint w64 name ∷ [], (vint w16 count ∷ [], (vint w64 priority ∷ [], tt)))))))))
+  vals = (
+    benchVal h ∷ [],
+    (
+      s₁ ∷ [],
+      (
+        s₂ ∷ [],
+        (
+          s₃ ∷ [],
+          (s₄ ∷ [], (vint w32 beat ∷ [], (vint w64 name ∷ [], (vint w16 count ∷ [], (vint w64 priority ∷ [], tt))))),
+        ),
+      ),
+    ),
+  )
 
   abbrev Post : Val → SProp 𝓤
   Post = walkOf 𝓤 H A here.ended stayed (here.clauses 𝓤 H A at-mem run) .post ((κs, qs, tt, a, vals), tt)
 
   -- ---- the tokens and the last lists, once Act has returned
   abbrev Ended : ActLeft → Item 𝓤
-  Ended p = (‵ (flft κ₁ q₁) ⊛ ‵ (flft κ₂ q₂) ⊛ ‵ (flft κ₃ q₃) ⊛ ‵ ftrue) ⊛ ‵ (finally u64 γ₁ (p .1 .1 .0)) ⊛ ‵ (finally u16 γ₂ (p .1 .1 .1 .0)) ⊛ ‵ (finally u8
+  Ended p = (‵ (flft κ₁ q₁) ⊛ ‵ (flft κ₂ q₂) ⊛ ‵ (flft κ₃ q₃) ⊛ ‵ ftrue) ⊛ ‵ (finally u64 γ₁ (p .1 .1 .0)) ⊛ ‵
+      (finally u16 γ₂ (p .1 .1 .1 .0)) ⊛ ‵ (finally u8
       (x₃ .name) (p .1 .1 .1 .1))
 
   -- ---- the local l holds the record
@@ -206,15 +246,19 @@ module _ {M : Type 1} (𝓤 : URA M) (H : Heap 𝓤) (A : Atoms 𝓤) (W : Given
     KeptBench = KeptLocal T.the-row l 0
 
     abbrev LentBench : Bench → Loan → Item 𝓤
-    LentBench g n = ‵ (MutRef (named 0) (life n) T.the-row .own (bench-at (n .1) g) (vptr l 0 ∷ [])) ⊛ ‵ (flft (life n) fullShare) ⊛ ‵ (KeptBench n)
+    LentBench g n = ‵ (MutRef (named 0) (life n) T.the-row .own (bench-at (n .1) g) (vptr l 0 ∷ [])) ⊛ ‵ (flft (life n) fullShare) ⊛ ‵
+        (KeptBench n)
 
     -- the record is lent for a call, and comes back
     bench-lent : (g : Bench) (v : Val) → IsBench g v → ent 𝓤 (sem 𝓤 H A (cell v)) (H .⇛ (ex 𝓤 (λ (n : Loan). mean 𝓤 H A (LentBench g n))))
-    bench-lent g = lends-local T.the-row T′.mir refl benchVal (LL.tells T.the-type T′.the-laws) l 0 𝓤 H A W ((LL.makes T.the-type T′.the-plain) 𝓤 H A) g (named 0)
+    bench-lent g = lends-local T.the-row T′.mir refl benchVal (LL.tells T.the-type T′.the-laws) l 0 𝓤 H A W
+        ((LL.makes T.the-type T′.the-plain) 𝓤 H A) g (named 0)
 
-    bench-back : (g : Bench) (n : Loan) → ent 𝓤 (sep 𝓤 (A .lft (life n) fullShare) (sep 𝓤 (sem 𝓤 H A (KeptBench n)) (A .res (n .1) (T.the-row .coded .code g))))
+    bench-back : (g : Bench) (n : Loan)
+        → ent 𝓤 (sep 𝓤 (A .lft (life n) fullShare) (sep 𝓤 (sem 𝓤 H A (KeptBench n)) (A .res (n .1) (T.the-row .coded .code g))))
         (H .⇛ (guard 𝓤 (IsBench g (benchVal g)) (sem 𝓤 H A (cell (benchVal g)))))
-    bench-back g = local-back T.the-row T′.mir refl benchVal (LL.tells T.the-type T′.the-laws) l 0 𝓤 H A W ((LL.makes T.the-type T′.the-plain) 𝓤 H A) g
+    bench-back g = local-back T.the-row T′.mir refl benchVal (LL.tells T.the-type T′.the-laws) l 0 𝓤 H A W
+        ((LL.makes T.the-type T′.the-plain) 𝓤 H A) g
 
     -- ---- Begin: the record and both lists are lent, the lists as `&`
     abbrev beg-lives : Loans → Lft × (Lft × (Lft × Unit {0}))
@@ -224,7 +268,16 @@ module _ {M : Type 1} (𝓤 : URA M) (H : Heap 𝓤) (A : Atoms 𝓤) (W : Given
     beg-args n = (bench-at (n .0 .1) h, (names-at (n .1 .0 .1) ns, (counts-at (n .1 .1 .1) cs, (beat, tt))))
 
     abbrev beg-ghost : Loans → Beg 𝓤 H A at-mem run .Ghost
-    beg-ghost n = ((beg-lives n, (fullShare, (fullShare, (fullShare, tt))), tt, beg-args n, (vptr l 0 ∷ [], (s₁ ∷ [], (s₂ ∷ [], (vint w32 beat ∷ [], tt))))), tt)
+    beg-ghost n = (
+      (
+        beg-lives n,
+        (fullShare, (fullShare, (fullShare, tt))),
+        tt,
+        beg-args n,
+        (vptr l 0 ∷ [], (s₁ ∷ [], (s₂ ∷ [], (vint w32 beat ∷ [], tt)))),
+      ),
+      tt,
+    )
 
     abbrev KeptBegin : Loans → Fml
     KeptBegin n = fsep (KeptBench (n .0)) (fsep (KeptShr u64 κ₁ q₁ γ₁ b₁ o₁ ns (n .1 .0)) (KeptShr u16 κ₂ q₂ γ₂ b₂ o₂ cs (n .1 .1)))
@@ -241,20 +294,24 @@ module _ {M : Type 1} (𝓤 : URA M) (H : Heap 𝓤) (A : Atoms 𝓤) (W : Given
         split ! $ move ! (1 ∷ []) $ split ! $ move ! (3 ∷ 4 ∷ []) $
         use2 W (later
         (some (λ (n : Loan). ‵ (ShrSlice (named 1) (life n) u64 .own (names-at (n .1) ns) (s₁
-        ∷ [])) ⊛ ‵ (flft (life n) fullShare) ⊛ ‵ (KeptShr u64 κ₁ q₁ γ₁ b₁ o₁ ns n)))) (lends-shr u64 κ₁ q₁ γ₁ b₁ o₁ 𝓤 H A W (named 0) (named 1) ns) $ await ! tt $
+        ∷ [])) ⊛ ‵ (flft (life n) fullShare) ⊛ ‵ (KeptShr u64 κ₁ q₁ γ₁ b₁ o₁ ns n))))
+        (lends-shr u64 κ₁ q₁ γ₁ b₁ o₁ 𝓤 H A W (named 0) (named 1) ns) $ await ! tt $
         pick ! (λ n₁.
         split ! $ move ! (1 ∷ []) $ split ! $ move ! (6 ∷ 7 ∷ []) $
         use2 W (later
         (some (λ (n : Loan). ‵ (ShrSlice (named 2) (life n) u16 .own (counts-at (n .1) cs) (s₂
-        ∷ [])) ⊛ ‵ (flft (life n) fullShare) ⊛ ‵ (KeptShr u16 κ₂ q₂ γ₂ b₂ o₂ cs n)))) (lends-shr u16 κ₂ q₂ γ₂ b₂ o₂ 𝓤 H A W (named 1) (named 2) cs) $ await ! tt $
+        ∷ [])) ⊛ ‵ (flft (life n) fullShare) ⊛ ‵ (KeptShr u16 κ₂ q₂ γ₂ b₂ o₂ cs n))))
+        (lends-shr u16 κ₂ q₂ γ₂ b₂ o₂ 𝓤 H A W (named 1) (named 2) cs) $ await ! tt $
         pick ! (λ n₂.
         split ! $ move ! (1 ∷ []) $ split ! $
         -- [token 2; kept 2; the counts; token 1; kept 1; the names; token 0; kept 0; the record]
         at-once ! $ show ! (λ (n : Loans). sep 𝓤 (Beg 𝓤 H A at-mem run .pre (beg-ghost n)) (sem 𝓤 H A (KeptBegin n))) (n₀, (n₁, n₂)) $
-        nothing ! $ owned ! u32 (Is u32) (uint-makes 𝓤 H A W w32) beat _ (refl, fits) $ fjoin ! $ move ! (3 ∷ 0 ∷ []) $ fjoin ! $ move ! (5 ∷ 0 ∷ []) $ fjoin ! $
+        nothing ! $ owned ! u32 (Is u32) (uint-makes 𝓤 H A W w32) beat _ (refl, fits) $ fjoin ! $ move ! (3 ∷ 0 ∷ []) $ fjoin ! $ move !
+        (5 ∷ 0 ∷ []) $ fjoin ! $
         move ! (7 ∷ 0 ∷ []) $ fjoin ! $
         -- [what is passed; token 2; kept 2; token 1; kept 1; token 0; kept 0]
-        nothing ! $ move ! (2 ∷ 0 ∷ []) $ join ! $ move ! (3 ∷ 0 ∷ []) $ join ! $ move ! (4 ∷ 0 ∷ []) $ join ! $ join ! $ nothing ! $ move ! (1 ∷ 0 ∷ []) $ join ! $
+        nothing ! $ move ! (2 ∷ 0 ∷ []) $ join ! $ move ! (3 ∷ 0 ∷ []) $ join ! $ move ! (4 ∷ 0 ∷ []) $ join ! $ join ! $ nothing ! $ move !
+        (1 ∷ 0 ∷ []) $ join ! $
         frame ! $
         move ! (1 ∷ 0 ∷ []) $ fjoin ! $ move ! (1 ∷ 0 ∷ []) $ fjoin ! $ done !)))
 
@@ -266,24 +323,31 @@ module _ {M : Type 1} (𝓤 : URA M) (H : Heap 𝓤) (A : Atoms 𝓤) (W : Given
         use1 W (later
         (some
         (λ (r : Start).
-        ((‵ (flft (life (n .0)) fullShare) ⊛ ‵ (flft (life (n .1 .0)) fullShare) ⊛ ‵ (flft (life (n .1 .1)) fullShare) ⊛ ‵ ftrue) ⊛ ‵ (TS.the-row .own r (w
-        ∷ []))) ⊛ raw (ensured 𝓤 H A beg.ended (beg.clauses 𝓤 H A at-mem run) (beg-lives n) (beg-args n) tt r)))) (id⊢ 𝓤 _) $ await ! tt $ pick ! (λ r.
+        ((‵ (flft (life (n .0)) fullShare) ⊛ ‵ (flft (life (n .1 .0)) fullShare) ⊛ ‵ (flft (life (n .1 .1)) fullShare) ⊛ ‵ ftrue) ⊛ ‵
+        (TS.the-row .own r (w
+        ∷ []))) ⊛ raw (ensured 𝓤 H A beg.ended (beg.clauses 𝓤 H A at-mem run) (beg-lives n) (beg-args n) tt r))))
+        (id⊢ 𝓤 _) $ await ! tt $ pick ! (λ r.
         split ! $ move ! (1 ∷ []) $
-        use1 W (some (λ (zs : Bench × (Unit {0} × (Unit {0} × (Unit {0} × Unit {0})))). ‵ (lasts beg.ended (beg-lives n) (beg-args n) zs) ⊛ raw (fact 𝓤
+        use1 W (some (λ (zs : Bench × (Unit {0} × (Unit {0} × (Unit {0} × Unit {0})))). ‵
+        (lasts beg.ended (beg-lives n) (beg-args n) zs) ⊛ raw (fact 𝓤
         (beg-does r (zs .0))))) (id⊢ 𝓤 _) $ pick ! (λ zs.
         split ! $ move ! (1 ∷ []) $ heard ! (beg-does r (zs .0)) (λ e. fsplit ! $
         -- [the record's last value; the rest; the tokens and the answer; what is kept]
-        move ! (2 ∷ []) $ split ! $ move ! (1 ∷ []) $ peeks ! TS.the-row (Is TS.the-row) (shows 𝓤 H A TS.the-row) r (w ∷ []) (λ is. drop ! $ split ! $
+        move ! (2 ∷ []) $ split ! $ move ! (1 ∷ []) $ peeks ! TS.the-row (Is TS.the-row) (shows 𝓤 H A TS.the-row) r (w ∷ [])
+        (λ is. drop ! $ split ! $
         move ! (4 ∷ []) $ fsplit ! $
         -- [kept 0; kept 1 and 2; token 0; tokens; the record's last value; the rest]
-        move ! (2 ∷ 0 ∷ 4 ∷ []) $ use3 W (later (given (IsBench (zs .0) (benchVal (zs .0))) (‵ (cell (benchVal (zs .0)))))) (bench-back (zs .0) (n .0)) $ await ! tt $
+        move ! (2 ∷ 0 ∷ 4 ∷ []) $ use3 W (later (given (IsBench (zs .0) (benchVal (zs .0))) (‵ (cell (benchVal (zs .0))))))
+        (bench-back (zs .0) (n .0)) $ await ! tt $
         learn ! (λ is′.
         -- [the cell; kept 1 and 2; tokens; the rest]
         move ! (2 ∷ []) $ split ! $ move ! (3 ∷ []) $ fsplit ! $ move ! (2 ∷ 0 ∷ []) $
-        use2 W (later (‵ (names-own ns) ⊛ ‵ (flft κ₁ q₁))) (shr-back u64 κ₁ q₁ γ₁ b₁ o₁ 𝓤 H A W (named 0) (named 1) ns (n .1 .0) room₁) $ await ! tt $ split ! $
+        use2 W (later (‵ (names-own ns) ⊛ ‵ (flft κ₁ q₁)))
+        (shr-back u64 κ₁ q₁ γ₁ b₁ o₁ 𝓤 H A W (named 0) (named 1) ns (n .1 .0) room₁) $ await ! tt $ split ! $
         -- [the names; their token; kept 2; tokens; the cell; the rest]
         move ! (3 ∷ []) $ split ! $ move ! (0 ∷ 4 ∷ []) $
-        use2 W (later (‵ (counts-own cs) ⊛ ‵ (flft κ₂ q₂))) (shr-back u16 κ₂ q₂ γ₂ b₂ o₂ 𝓤 H A W (named 1) (named 2) cs (n .1 .1) room₂) $ await ! tt $ split ! $
+        use2 W (later (‵ (counts-own cs) ⊛ ‵ (flft κ₂ q₂)))
+        (shr-back u16 κ₂ q₂ γ₂ b₂ o₂ 𝓤 H A W (named 1) (named 2) cs (n .1 .1) room₂) $ await ! tt $ split ! $
         -- [the counts; their token; -; the names; their token; the cell; the rest]
         at-once ! $ show ! (λ (p : BeginLeft). guard 𝓤 (Begun h ns cs beat (p .0) (p .1) w) (Has (benchVal (p .1)) ns cs)) (r, zs .0) $
         check ! (record { gives = e; answer = is; left = is′ }) $
@@ -298,7 +362,16 @@ module _ {M : Type 1} (𝓤 : URA M) (H : Heap 𝓤) (A : Atoms 𝓤) (W : Given
       rec-args n = (bench-at (n .0 .1) g, (names-at (n .1 .0 .1) ns, (counts-at (n .1 .1 .1) cs, (x₄, tt))))
 
       abbrev rec-ghost : Loans → Rec 𝓤 H A at-mem run .Ghost
-      rec-ghost n = ((rec-lives n, (fullShare, (fullShare, (fullShare, (q₄, tt)))), tt, rec-args n, (vptr l 0 ∷ [], (s₁ ∷ [], (s₂ ∷ [], (s₄ ∷ [], tt))))), tt)
+      rec-ghost n = (
+        (
+          rec-lives n,
+          (fullShare, (fullShare, (fullShare, (q₄, tt)))),
+          tt,
+          rec-args n,
+          (vptr l 0 ∷ [], (s₁ ∷ [], (s₂ ∷ [], (s₄ ∷ [], tt)))),
+        ),
+        tt,
+      )
 
       abbrev KeptReceive : Loans → Fml
       KeptReceive n = fsep (KeptBench (n .0)) (fsep (KeptMut u64 κ₁ q₁ γ₁ b₁ o₁ ns (n .1 .0)) (KeptMut u16 κ₂ q₂ γ₂ b₂ o₂ cs (n .1 .1)))
@@ -313,26 +386,31 @@ module _ {M : Type 1} (𝓤 : URA M) (H : Heap 𝓤) (A : Atoms 𝓤) (W : Given
       to-receive : (v : Val) → IsBench g v → ent 𝓤 (sep 𝓤 (sem 𝓤 H A message-own) (sep 𝓤 (A .lft κ₄ q₄) (Has v ns cs)))
           (H .⇛ (ex 𝓤 (λ (n : Loans). sep 𝓤 (Rec 𝓤 H A at-mem run .pre (rec-ghost n)) (sem 𝓤 H A (KeptReceive n)))))
       to-receive v is =
-          qed W (‵ message-own ∷ ‵ (flft κ₄ q₄) ∷ ‵ (cell v) ∷ ‵ (names-own ns) ∷ ‵ (flft κ₁ q₁) ∷ ‵ (counts-own cs) ∷ ‵ (flft κ₂ q₂) ∷ []) ∵ updating ! $
+          qed W (‵ message-own ∷ ‵ (flft κ₄ q₄) ∷ ‵ (cell v) ∷ ‵ (names-own ns) ∷ ‵ (flft κ₁ q₁) ∷ ‵ (counts-own cs) ∷ ‵ (flft κ₂ q₂) ∷ [])
+          ∵ updating ! $
           move ! (2 ∷ 3 ∷ 4 ∷ 5 ∷ 6 ∷ []) $
           use1 W (later (some (LentBench g)))
           (bench-lent g v is) $ await ! tt $ pick ! (λ n₀.
           split ! $ move ! (1 ∷ []) $ split ! $ move ! (3 ∷ 4 ∷ []) $
           use2 W (later
           (some (λ (n : Loan). ‵ (MutSlice (named 1) (life n) u64 .own (names-at (n .1) ns) (s₁
-          ∷ [])) ⊛ ‵ (flft (life n) fullShare) ⊛ ‵ (KeptMut u64 κ₁ q₁ γ₁ b₁ o₁ ns n)))) (lends-mut u64 κ₁ q₁ γ₁ b₁ o₁ 𝓤 H A W (named 0) (named 1) ns) $
+          ∷ [])) ⊛ ‵ (flft (life n) fullShare) ⊛ ‵ (KeptMut u64 κ₁ q₁ γ₁ b₁ o₁ ns n))))
+          (lends-mut u64 κ₁ q₁ γ₁ b₁ o₁ 𝓤 H A W (named 0) (named 1) ns) $
           await ! tt $ pick ! (λ n₁.
           split ! $ move ! (1 ∷ []) $ split ! $ move ! (6 ∷ 7 ∷ []) $
           use2 W (later
           (some (λ (n : Loan). ‵ (MutSlice (named 2) (life n) u16 .own (counts-at (n .1) cs) (s₂
-          ∷ [])) ⊛ ‵ (flft (life n) fullShare) ⊛ ‵ (KeptMut u16 κ₂ q₂ γ₂ b₂ o₂ cs n)))) (lends-mut u16 κ₂ q₂ γ₂ b₂ o₂ 𝓤 H A W (named 1) (named 2) cs) $
+          ∷ [])) ⊛ ‵ (flft (life n) fullShare) ⊛ ‵ (KeptMut u16 κ₂ q₂ γ₂ b₂ o₂ cs n))))
+          (lends-mut u16 κ₂ q₂ γ₂ b₂ o₂ 𝓤 H A W (named 1) (named 2) cs) $
           await ! tt $ pick ! (λ n₂.
           split ! $ move ! (1 ∷ []) $ split ! $
           -- [token 2; kept 2; the counts; token 1; kept 1; the names; token 0; kept 0; the record; the message; its token]
           at-once ! $ show ! (λ (n : Loans). sep 𝓤 (Rec 𝓤 H A at-mem run .pre (rec-ghost n)) (sem 𝓤 H A (KeptReceive n))) (n₀, (n₁, n₂)) $
-          nothing ! $ move ! (10 ∷ 0 ∷ []) $ fjoin ! $ move ! (3 ∷ 0 ∷ []) $ fjoin ! $ move ! (5 ∷ 0 ∷ []) $ fjoin ! $ move ! (7 ∷ 0 ∷ []) $ fjoin ! $
+          nothing ! $ move ! (10 ∷ 0 ∷ []) $ fjoin ! $ move ! (3 ∷ 0 ∷ []) $ fjoin ! $ move ! (5 ∷ 0 ∷ []) $ fjoin ! $ move !
+          (7 ∷ 0 ∷ []) $ fjoin ! $
           -- [what is passed; token 2; kept 2; token 1; kept 1; token 0; kept 0; the message's token]
-          nothing ! $ move ! (8 ∷ 0 ∷ []) $ join ! $ move ! (2 ∷ 0 ∷ []) $ join ! $ move ! (3 ∷ 0 ∷ []) $ join ! $ move ! (4 ∷ 0 ∷ []) $ join ! $ join ! $ nothing ! $
+          nothing ! $ move ! (8 ∷ 0 ∷ []) $ join ! $ move ! (2 ∷ 0 ∷ []) $ join ! $ move ! (3 ∷ 0 ∷ []) $ join ! $ move !
+          (4 ∷ 0 ∷ []) $ join ! $ join ! $ nothing ! $
           move ! (1 ∷ 0 ∷ []) $ join ! $ frame ! $
           move ! (1 ∷ 0 ∷ []) $ fjoin ! $ move ! (1 ∷ 0 ∷ []) $ fjoin ! $ done !)))
 
@@ -344,26 +422,33 @@ module _ {M : Type 1} (𝓤 : URA M) (H : Heap 𝓤) (A : Atoms 𝓤) (W : Given
           (some
           (λ (r : Taken).
           ((‵ (flft (life (n .0)) fullShare) ⊛ ‵ (flft (life (n .1 .0)) fullShare) ⊛ ‵ (flft
-          (life (n .1 .1)) fullShare) ⊛ ‵ (flft κ₄ q₄) ⊛ ‵ ftrue) ⊛ ‵ (TT.the-row .own r (w ∷ []))) ⊛ raw (ensured 𝓤 H A rec.ended (rec.clauses 𝓤 H A at-mem run)
+          (life (n .1 .1)) fullShare) ⊛ ‵ (flft κ₄ q₄) ⊛ ‵ ftrue) ⊛ ‵ (TT.the-row .own r (w ∷ []))) ⊛ raw
+          (ensured 𝓤 H A rec.ended (rec.clauses 𝓤 H A at-mem run)
           (rec-lives n) (rec-args n) tt r)))) (id⊢ 𝓤 _) $ await ! tt $ pick ! (λ r.
           split ! $ move ! (1 ∷ []) $
-          use1 W (some (λ (zs : Bench × (List ℕ × (List ℕ × (Unit {0} × Unit {0})))). ‵ (lasts rec.ended (rec-lives n) (rec-args n) zs) ⊛ raw (fact 𝓤
+          use1 W (some (λ (zs : Bench × (List ℕ × (List ℕ × (Unit {0} × Unit {0})))). ‵
+          (lasts rec.ended (rec-lives n) (rec-args n) zs) ⊛ raw (fact 𝓤
           (rec-does r (zs .0) (zs .1 .0) (zs .1 .1 .0))))) (id⊢ 𝓤 _) $ pick ! (λ zs.
           split ! $ move ! (1 ∷ []) $ heard ! (rec-does r (zs .0) (zs .1 .0) (zs .1 .1 .0)) (λ e. fsplit ! $
-          move ! (1 ∷ []) $ fsplit ! $ fsplit ! $ move ! (1 ∷ []) $ feqL ! (λ e₁. move ! (1 ∷ []) $ fsplit ! $ fsplit ! $ move ! (1 ∷ []) $ feqL ! (λ e₂.
+          move ! (1 ∷ []) $ fsplit ! $ fsplit ! $ move ! (1 ∷ []) $ feqL !
+          (λ e₁. move ! (1 ∷ []) $ fsplit ! $ fsplit ! $ move ! (1 ∷ []) $ feqL ! (λ e₂.
           -- [the last counts; the rest; the last names; the record's last value; the tokens and the answer; what is kept]
-          move ! (4 ∷ []) $ split ! $ move ! (1 ∷ []) $ peeks ! TT.the-row (Is TT.the-row) (shows 𝓤 H A TT.the-row) r (w ∷ []) (λ is. drop ! $ split ! $
+          move ! (4 ∷ []) $ split ! $ move ! (1 ∷ []) $ peeks ! TT.the-row (Is TT.the-row) (shows 𝓤 H A TT.the-row) r (w ∷ [])
+          (λ is. drop ! $ split ! $
           move ! (6 ∷ []) $ fsplit ! $
           -- [kept 0; kept 1 and 2; token 0; tokens; the last counts; the rest; the last names; the record's last value]
-          move ! (2 ∷ 0 ∷ 7 ∷ []) $ use3 W (later (given (IsBench (zs .0) (benchVal (zs .0))) (‵ (cell (benchVal (zs .0)))))) (bench-back (zs .0) (n .0)) $ await ! tt $
+          move ! (2 ∷ 0 ∷ 7 ∷ []) $ use3 W (later (given (IsBench (zs .0) (benchVal (zs .0))) (‵ (cell (benchVal (zs .0))))))
+          (bench-back (zs .0) (n .0)) $ await ! tt $
           learn ! (λ is′.
           -- [the cell; kept 1 and 2; tokens; the last counts; the rest; the last names]
           move ! (2 ∷ []) $ split ! $ move ! (3 ∷ []) $ fsplit ! $ move ! (2 ∷ 0 ∷ 7 ∷ []) $
-          use3 W (later (‵ (names-own (zs .1 .0)) ⊛ ‵ (flft κ₁ q₁))) (mut-back u64 κ₁ q₁ γ₁ b₁ o₁ 𝓤 H A W (named 0) (named 1) ns (n .1 .0) (zs .1 .0) room₁ e₁) $
+          use3 W (later (‵ (names-own (zs .1 .0)) ⊛ ‵ (flft κ₁ q₁)))
+          (mut-back u64 κ₁ q₁ γ₁ b₁ o₁ 𝓤 H A W (named 0) (named 1) ns (n .1 .0) (zs .1 .0) room₁ e₁) $
           await ! tt $ split ! $
           -- [the names; their token; kept 2; tokens; the cell; the last counts; the rest]
           move ! (3 ∷ []) $ split ! $ move ! (0 ∷ 4 ∷ 6 ∷ []) $
-          use3 W (later (‵ (counts-own (zs .1 .1 .0)) ⊛ ‵ (flft κ₂ q₂))) (mut-back u16 κ₂ q₂ γ₂ b₂ o₂ 𝓤 H A W (named 1) (named 2) cs (n .1 .1)
+          use3 W (later (‵ (counts-own (zs .1 .1 .0)) ⊛ ‵ (flft κ₂ q₂)))
+          (mut-back u16 κ₂ q₂ γ₂ b₂ o₂ 𝓤 H A W (named 1) (named 2) cs (n .1 .1)
           (zs .1 .1 .0) room₂ e₂) $ await ! tt $ split ! $
           -- [the counts; their token; the message's; the names; their token; the cell; the rest]
           move ! (2 ∷ []) $ split ! $ at-once ! $ show ! (AfterReceive w) (r, (zs .0, (zs .1 .0, zs .1 .1 .0))) $
@@ -398,93 +483,125 @@ module _ {M : Type 1} (𝓤 : URA M) (H : Heap 𝓤) (A : Atoms 𝓤) (W : Given
       AfterAct w p = guard 𝓤 (Did g ms ds name count priority (x₃ .now) (p .0) (p .1 .0) (p .1 .1 .0) (p .1 .1 .1 .0) (p .1 .1 .1 .1) w)
           (sep 𝓤 (sem 𝓤 H A (cell (benchVal (p .1 .0)))) (mean 𝓤 H A (Ended p)))
 
-      to-act : (v : Val) → IsBench g v → name < 2 ^ 64 → count < 2 ^ 16 → priority < 2 ^ 64 → ent 𝓤 (sep 𝓤 (sem 𝓤 H A out-own) (sep 𝓤 (A .lft κ₃ q₃) (Has v ms ds)))
+      to-act : (v : Val) → IsBench g v → name < 2 ^ 64 → count < 2 ^ 16 → priority < 2 ^ 64
+          → ent 𝓤 (sep 𝓤 (sem 𝓤 H A out-own) (sep 𝓤 (A .lft κ₃ q₃) (Has v ms ds)))
           (H .⇛ (ex 𝓤 (λ (n : Loan). sep 𝓤 (Act 𝓤 H A at-mem run .pre (act-ghost n)) (sem 𝓤 H A (KeptBench n)))))
       to-act v is fits₁ fits₂ fits₃ =
-          qed W (‵ out-own ∷ ‵ (flft κ₃ q₃) ∷ ‵ (cell v) ∷ ‵ (names-own ms) ∷ ‵ (flft κ₁ q₁) ∷ ‵ (counts-own ds) ∷ ‵ (flft κ₂ q₂) ∷ []) ∵ updating ! $
+          qed W (‵ out-own ∷ ‵ (flft κ₃ q₃) ∷ ‵ (cell v) ∷ ‵ (names-own ms) ∷ ‵ (flft κ₁ q₁) ∷ ‵ (counts-own ds) ∷ ‵ (flft κ₂ q₂) ∷ []) ∵
+          updating ! $
           move ! (2 ∷ 3 ∷ 4 ∷ 5 ∷ 6 ∷ []) $
           use1 W (later (some (LentBench g)))
           (bench-lent g v is) $ await ! tt $ pick ! (λ n₀.
-          split ! $ move ! (1 ∷ []) $ split ! $ at-once ! $ show ! (λ (n : Loan). sep 𝓤 (Act 𝓤 H A at-mem run .pre (act-ghost n)) (sem 𝓤 H A (KeptBench n))) n₀ $
+          split ! $ move ! (1 ∷ []) $ split ! $ at-once ! $ show !
+          (λ (n : Loan). sep 𝓤 (Act 𝓤 H A at-mem run .pre (act-ghost n)) (sem 𝓤 H A (KeptBench n))) n₀ $
           -- [token 0; kept 0; the record; the names; their token; the counts; their token; the buffer; its token]
           nothing ! $ owned ! u64 (Is u64) (uint-makes 𝓤 H A W w64) priority _ (refl, fits₃) $ fjoin ! $
-          owned ! u16 (Is u16) (uint-makes 𝓤 H A W w16) count _ (refl, fits₂) $ fjoin ! $ owned ! u64 (Is u64) (uint-makes 𝓤 H A W w64) name _ (refl, fits₁) $
+          owned ! u16 (Is u16) (uint-makes 𝓤 H A W w16) count _ (refl, fits₂) $ fjoin ! $ owned ! u64 (Is u64)
+          (uint-makes 𝓤 H A W w64) name _ (refl, fits₁) $
           fjoin ! $
           move ! (8 ∷ 0 ∷ []) $ fjoin ! $ move ! (6 ∷ 0 ∷ []) $ fjoin ! $ move ! (4 ∷ 0 ∷ []) $ fjoin ! $ move ! (3 ∷ 0 ∷ []) $ fjoin ! $
           -- [what is passed; token 0; kept 0; the tokens of the names, of the counts and of the buffer]
-          nothing ! $ move ! (6 ∷ 0 ∷ []) $ join ! $ move ! (5 ∷ 0 ∷ []) $ join ! $ move ! (4 ∷ 0 ∷ []) $ join ! $ move ! (2 ∷ 0 ∷ []) $ join ! $ join ! $ nothing ! $
+          nothing ! $ move ! (6 ∷ 0 ∷ []) $ join ! $ move ! (5 ∷ 0 ∷ []) $ join ! $ move ! (4 ∷ 0 ∷ []) $ join ! $ move !
+          (2 ∷ 0 ∷ []) $ join ! $ join ! $ nothing ! $
           move ! (1 ∷ 0 ∷ []) $ join ! $ frame ! $ done !)
 
-      of-act : (n : Loan) (w : Val) → ent 𝓤 (sep 𝓤 (Act 𝓤 H A at-mem run .post (act-ghost n) w) (sem 𝓤 H A (KeptBench n))) (H .⇛ (ex 𝓤 (AfterAct w)))
+      of-act : (n : Loan) (w : Val)
+          → ent 𝓤 (sep 𝓤 (Act 𝓤 H A at-mem run .post (act-ghost n) w) (sem 𝓤 H A (KeptBench n))) (H .⇛ (ex 𝓤 (AfterAct w)))
       of-act n w =
           qed W (raw (Act 𝓤 H A at-mem run .post (act-ghost n) w) ∷ ‵ (KeptBench n) ∷ []) ∵ updating ! $
           use1 W (later
-          (some (λ (r : Made). ((‵ (flft (life n) fullShare) ⊛ ‵ (flft κ₁ q₁) ⊛ ‵ (flft κ₂ q₂) ⊛ ‵ (flft κ₃ q₃) ⊛ ‵ ftrue) ⊛ ‵ (TM.the-row .own r (w
-          ∷ []))) ⊛ raw (ensured 𝓤 H A act.ended (act.clauses 𝓤 H A at-mem run) (act-lives n) (act-args n) tt r)))) (id⊢ 𝓤 _) $ await ! tt $ pick ! (λ r.
+          (some (λ (r : Made). ((‵ (flft (life n) fullShare) ⊛ ‵ (flft κ₁ q₁) ⊛ ‵ (flft κ₂ q₂) ⊛ ‵ (flft κ₃ q₃) ⊛ ‵ ftrue) ⊛ ‵
+          (TM.the-row .own r (w
+          ∷ []))) ⊛ raw (ensured 𝓤 H A act.ended (act.clauses 𝓤 H A at-mem run) (act-lives n) (act-args n) tt r))))
+          (id⊢ 𝓤 _) $ await ! tt $ pick ! (λ r.
           split ! $ move ! (1 ∷ []) $
-          use1 W (some (λ (zs : Bench × (List ℕ × (List ℕ × (List ℕ × (Unit {0} × (Unit {0} × (Unit {0} × Unit {0}))))))). ‵ (lasts act.ended (act-lives n)
+          use1 W (some (λ (zs : Bench × (List ℕ × (List ℕ × (List ℕ × (Unit {0} × (Unit {0} × (Unit {0} × Unit {0}))))))). ‵
+          (lasts act.ended (act-lives n)
           (act-args n) zs) ⊛ raw (fact 𝓤 (act-does r (zs .0) (zs .1 .0) (zs .1 .1 .0) (zs .1 .1 .1 .0))))) (id⊢ 𝓤 _) $ pick ! (λ zs.
           split ! $ move ! (1 ∷ []) $ heard ! (act-does r (zs .0) (zs .1 .0) (zs .1 .1 .0) (zs .1 .1 .1 .0)) (λ e. fsplit ! $
           move ! (1 ∷ []) $ fsplit ! $ fsplit ! $ move ! (1 ∷ []) $ feqL ! (λ e₁. move ! (1 ∷ []) $ fsplit ! $ fsplit ! $ move ! (1 ∷ []) $
           feqL ! (λ e₂. move ! (1 ∷ []) $ fsplit ! $ fsplit ! $ move ! (1 ∷ []) $ feqL ! (λ e₃.
           -- [the last buffer; the rest; the last counts; the last names; the record's last value; the tokens and the answer; kept 0]
-          move ! (5 ∷ []) $ split ! $ move ! (1 ∷ []) $ peeks ! TM.the-row (Is TM.the-row) (shows 𝓤 H A TM.the-row) r (w ∷ []) (λ is. drop ! $ split ! $
+          move ! (5 ∷ []) $ split ! $ move ! (1 ∷ []) $ peeks ! TM.the-row (Is TM.the-row) (shows 𝓤 H A TM.the-row) r (w ∷ [])
+          (λ is. drop ! $ split ! $
           -- [token 0; tokens; the last buffer; the rest; the last counts; the last names; the record's last value; kept 0]
-          move ! (0 ∷ 7 ∷ 6 ∷ []) $ use3 W (later (given (IsBench (zs .0) (benchVal (zs .0))) (‵ (cell (benchVal (zs .0)))))) (bench-back (zs .0) n) $ await ! tt $
+          move ! (0 ∷ 7 ∷ 6 ∷ []) $ use3 W (later (given (IsBench (zs .0) (benchVal (zs .0))) (‵ (cell (benchVal (zs .0))))))
+          (bench-back (zs .0) n) $ await ! tt $
           learn ! (λ is′.
           at-once ! $ show ! (AfterAct w) (r, (zs .0, (zs .1 .0, (zs .1 .1 .0, zs .1 .1 .1 .0)))) $
           check ! (record { gives = e; answer = is; left = is′; longs = (e₁, (e₂, e₃)) }) $
           keep ! (0 ∷ 1 ∷ 5 ∷ 4 ∷ 2 ∷ []) $ done !))))))))
 
   -- ---- the end
-  module _ (p₁ : BeginLeft) (p₂ : ReceiveLeft) (p₃ : ActLeft) (w₁ w₂ w₃ : Val) (k₁ : Begun h ns cs beat (p₁ .0) (p₁ .1) w₁) (k₂ : Took (p₁ .1) ns cs (x₄ .now) (p₂ .0)
+  module _ (p₁ : BeginLeft) (p₂ : ReceiveLeft) (p₃ : ActLeft) (w₁ w₂ w₃ : Val) (k₁ : Begun h ns cs beat (p₁ .0) (p₁ .1) w₁)
+      (k₂ : Took (p₁ .1) ns cs (x₄ .now) (p₂ .0)
       (p₂ .1 .0) (p₂ .1 .1 .0) (p₂ .1 .1 .1) w₂)
-      (k₃ : Did (p₂ .1 .0) (p₂ .1 .1 .0) (p₂ .1 .1 .1) name count priority (x₃ .now) (p₃ .0) (p₃ .1 .0) (p₃ .1 .1 .0) (p₃ .1 .1 .1 .0) (p₃ .1 .1 .1 .1) w₃) where
+      (k₃ : Did (p₂ .1 .0) (p₂ .1 .1 .0) (p₂ .1 .1 .1) name count priority (x₃ .now) (p₃ .0) (p₃ .1 .0) (p₃ .1 .1 .0) (p₃ .1 .1 .1 .0)
+      (p₃ .1 .1 .1 .1) w₃) where
     abbrev gathered-val : Val
     gathered-val = vstruct (vcons w₁ (vcons w₂ (vcons w₃ (vcons (benchVal (p₃ .1 .0)) vnil))))
 
     is-gathered : Is TR.the-row (gathered-of p₁ p₂ p₃) (gathered-val ∷ [])
-    is-gathered = ((w₁ ∷ [], (w₂ ∷ [], (w₃ ∷ [], (benchVal (p₃ .1 .0) ∷ [], tt)))), (refl, (k₁ .answer, (k₂ .answer, (k₃ .answer, (k₃ .left, tt))))))
+    is-gathered = (
+      (w₁ ∷ [], (w₂ ∷ [], (w₃ ∷ [], (benchVal (p₃ .1 .0) ∷ [], tt)))),
+      (refl, (k₁ .answer, (k₂ .answer, (k₃ .answer, (k₃ .left, tt))))),
+    )
 
     exits : ent 𝓤 (⋆ 𝓤 H A (Ended p₃ ∷ ‵ (flft κ₄ q₄) ∷ [])) (Post gathered-val)
     exits =
         qed W (Ended p₃ ∷ ‵ (flft κ₄ q₄) ∷ []) ∵
-        suffices ! _ (ends-at 𝓤 H A here.ended stayed (here.clauses 𝓤 H A at-mem run) W ((κs, qs, tt, a, vals), tt) gathered-val (gathered-of p₁ p₂ p₃)
+        suffices ! _ (ends-at 𝓤 H A here.ended stayed (here.clauses 𝓤 H A at-mem run) W ((κs, qs, tt, a, vals), tt) gathered-val
+        (gathered-of p₁ p₂ p₃)
         (tt, (p₃ .1 .1 .0, (p₃ .1 .1 .1 .0, (p₃ .1 .1 .1 .1, (tt, (tt, (tt, (tt, (tt, tt)))))))))
         (tt, (k₃ .longs .0 ∙ k₂ .longs .0, (k₃ .longs .1 .0 ∙ k₂ .longs .1, (k₃ .longs .1 .1, (tt, (tt, (tt, (tt, (tt, tt)))))))))) $
-        says ! (gathered (stateOf h ns cs) beat (x₄ .now) (record { name = name; count = count }) priority (x₃ .now) (p₁ .1) (p₂ .1 .0) (p₃ .1 .0) ns cs (p₂ .1 .1 .0)
+        says ! (gathered (stateOf h ns cs) beat (x₄ .now) (record { name = name; count = count }) priority (x₃ .now) (p₁ .1) (p₂ .1 .0)
+        (p₃ .1 .0) ns cs (p₂ .1 .1 .0)
         (p₂ .1 .1 .1) (p₃ .1 .1 .0) (p₃ .1 .1 .1 .0) (p₃ .1 .1 .1 .1) (p₁ .0) (p₂ .0) (p₃ .0) (k₁ .gives) (k₂ .gives) (k₃ .gives)) $
         split ! $ split ! $ move ! (1 ∷ []) $ split ! $ move ! (1 ∷ []) $ split ! $
         -- [the buffer's token; -; the counts' token; the names' token; the last lists; the message's token]
-        move ! (5 ∷ 1 ∷ []) $ join ! $ move ! (1 ∷ 0 ∷ []) $ join ! $ move ! (1 ∷ 0 ∷ []) $ join ! $ move ! (1 ∷ 0 ∷ []) $ join ! $ frame ! $
-        split ! $ move ! (1 ∷ []) $ split ! $ nothing ! $ nothing ! $ fjoin ! $ nothing ! $ fjoin ! $ nothing ! $ fjoin ! $ nothing ! $ fjoin ! $ nothing ! $ fjoin ! $
+        move ! (5 ∷ 1 ∷ []) $ join ! $ move ! (1 ∷ 0 ∷ []) $ join ! $ move ! (1 ∷ 0 ∷ []) $ join ! $ move !
+        (1 ∷ 0 ∷ []) $ join ! $ frame ! $
+        split ! $ move ! (1 ∷ []) $ split ! $ nothing ! $ nothing ! $ fjoin ! $ nothing ! $ fjoin ! $ nothing ! $ fjoin ! $ nothing ! $
+        fjoin ! $ nothing ! $ fjoin ! $
         -- [the rest; the last counts; the last buffer; the last names]
         move ! (2 ∷ 0 ∷ []) $ fjoin ! $ move ! (1 ∷ 0 ∷ []) $ fjoin ! $ move ! (1 ∷ 0 ∷ []) $ fjoin ! $ nothing ! $ fjoin ! $
-        owned ! TR.the-row (Is TR.the-row) ((LL.makes TR.the-type TR′.the-plain) 𝓤 H A) (gathered-of p₁ p₂ p₃) _ is-gathered $ move ! (1 ∷ 0 ∷ []) $ done !
+        owned ! TR.the-row (Is TR.the-row) ((LL.makes TR.the-type TR′.the-plain) 𝓤 H A) (gathered-of p₁ p₂ p₃) _ is-gathered $ move !
+        (1 ∷ 0 ∷ []) $ done !
 
   module _ (C : Calls 𝓤 H) (Λ : Loops 𝓤 H) (fm : FmC 𝓤 H (W .laws) C) (known-begin : Triple 𝓤 (C #begin) (Beg 𝓤 H A at-mem run))
       (known-receive : Triple 𝓤 (C #receive) (Rec 𝓤 H A at-mem run)) (known-act : Triple 𝓤 (C #act) (Act 𝓤 H A at-mem run)) where
-    walk : IsBench h (benchVal h) → Room u64 (length ns) → Room u16 (length cs) → Room u8 (length (x₃ .now)) → Room u8 (length (x₄ .now)) → beat < 2 ^ 32 → name < 2 ^ 64
+    walk : IsBench h (benchVal h) → Room u64 (length ns) → Room u16 (length cs) → Room u8 (length (x₃ .now)) → Room u8 (length (x₄ .now))
+        → beat < 2 ^ 32 → name < 2 ^ 64
         → count < 2 ^ 16 → priority < 2 ^ 64
-        → ent 𝓤 (onEntry 𝓤 H A here.signature κs qs a vals) (WpFn 𝓤 H C Λ code.function (benchVal h ∷ s₁ ∷ s₂ ∷ s₃ ∷ s₄ ∷ vint w32 beat ∷ vint w64 name ∷ vint w16 count
+        → ent 𝓤 (onEntry 𝓤 H A here.signature κs qs a vals)
+        (WpFn 𝓤 H C Λ code.function (benchVal h ∷ s₁ ∷ s₂ ∷ s₃ ∷ s₄ ∷ vint w32 beat ∷ vint w64 name ∷ vint w16 count
         ∷ vint w64 priority ∷ []) Post)
     walk is room₁ room₂ room₃ room₄ fits₁ fits₂ fits₃ fits₄ =
         qed W ((‵ (flft κ₁ q₁) ⊛ ‵ (flft κ₂ q₂) ⊛ ‵ (flft κ₃ q₃) ⊛ ‵ (flft κ₄ q₄) ⊛ ‵ ftrue)
-        ∷ ‵ (owns (T.the-row ∷ MutSlice (named 0) κ₁ u64 ∷ MutSlice (named 1) κ₂ u16 ∷ MutSlice (named 2) κ₃ u8 ∷ ShrSlice (named 3) κ₄ u8 ∷ u32 ∷ u64 ∷ u16 ∷ u64
+        ∷ ‵ (owns (T.the-row ∷ MutSlice (named 0) κ₁ u64 ∷ MutSlice (named 1) κ₂ u16 ∷ MutSlice (named 2) κ₃ u8 ∷ ShrSlice
+        (named 3) κ₄ u8 ∷ u32 ∷ u64 ∷ u16 ∷ u64
         ∷ []) a vals) ∷ []) ∵
-        move ! (1 ∷ []) $ fsplit ! $ drop ! $ fsplit ! $ move ! (1 ∷ []) $ fsplit ! $ move ! (1 ∷ []) $ fsplit ! $ move ! (1 ∷ []) $ fsplit ! $ move ! (1 ∷ []) $
+        move ! (1 ∷ []) $ fsplit ! $ drop ! $ fsplit ! $ move ! (1 ∷ []) $ fsplit ! $ move ! (1 ∷ []) $ fsplit ! $ move !
+        (1 ∷ []) $ fsplit ! $ move ! (1 ∷ []) $
         drop ! $
         -- [the message; the buffer; the counts; the names; the tokens]
-        move ! (4 ∷ []) $ split ! $ move ! (1 ∷ []) $ split ! $ move ! (1 ∷ []) $ split ! $ move ! (1 ∷ []) $ split ! $ move ! (8 ∷ 4 ∷ 7 ∷ 3 ∷ 6 ∷ 2 ∷ 5 ∷ 0 ∷ []) $
-        enter ! C Λ code.function (benchVal h ∷ s₁ ∷ s₂ ∷ s₃ ∷ s₄ ∷ vint w32 beat ∷ vint w64 name ∷ vint w16 count ∷ vint w64 priority ∷ []) _ $
+        move ! (4 ∷ []) $ split ! $ move ! (1 ∷ []) $ split ! $ move ! (1 ∷ []) $ split ! $ move ! (1 ∷ []) $ split ! $ move !
+        (8 ∷ 4 ∷ 7 ∷ 3 ∷ 6 ∷ 2 ∷ 5 ∷ 0 ∷ []) $
+        enter ! C Λ code.function
+        (benchVal h ∷ s₁ ∷ s₂ ∷ s₃ ∷ s₄ ∷ vint w32 beat ∷ vint w64 name ∷ vint w16 count ∷ vint w64 priority ∷ []) _ $
         alloc1 ! (λ l₀. alloc1 ! (λ l₁. alloc1 ! (λ l₂. alloc1 ! (λ l₃. alloc1 ! (λ l₄. alloc1 ! (λ l₅. alloc1 ! (λ l₆. alloc1 ! (λ l₇.
-        alloc1 ! (λ l₈. alloc1 ! (λ l₉. alloc1 ! (λ l₁₀. alloc1 ! (λ l₁₁. alloc1 ! (λ l₁₂. alloc1 ! (λ l₁₃. alloc1 ! (λ l₁₄. alloc1 ! (λ l₁₅.
-        alloc1 ! (λ l₁₆. alloc1 ! (λ l₁₇. alloc1 ! (λ l₁₈. alloc1 ! (λ l₁₉. alloc1 ! (λ l₂₀. alloc1 ! (λ l₂₁. alloc1 ! (λ l₂₂. alloc1 ! (λ l₂₃.
-        alloc1 ! (λ l₂₄. alloc1 ! (λ l₂₅. alloc1 ! (λ l₂₆. alloc1 ! (λ l₂₇. alloc1 ! (λ l₂₈. alloc1 ! (λ l₂₉. alloc1 ! (λ l₃₀. alloc1 ! (λ l₃₁.
+        alloc1 ! (λ l₈. alloc1 !
+        (λ l₉. alloc1 ! (λ l₁₀. alloc1 ! (λ l₁₁. alloc1 ! (λ l₁₂. alloc1 ! (λ l₁₃. alloc1 ! (λ l₁₄. alloc1 ! (λ l₁₅.
+        alloc1 ! (λ l₁₆. alloc1 !
+        (λ l₁₇. alloc1 ! (λ l₁₈. alloc1 ! (λ l₁₉. alloc1 ! (λ l₂₀. alloc1 ! (λ l₂₁. alloc1 ! (λ l₂₂. alloc1 ! (λ l₂₃.
+        alloc1 ! (λ l₂₄. alloc1 !
+        (λ l₂₅. alloc1 ! (λ l₂₆. alloc1 ! (λ l₂₇. alloc1 ! (λ l₂₈. alloc1 ! (λ l₂₉. alloc1 ! (λ l₃₀. alloc1 ! (λ l₃₁.
         alloc0 ! $ params1 ! $
         pass1 ! (init ! 60 refl (LL.lawful T.the-type T′.the-laws 𝓤 H A W .typed h _ is .0)) $
-        pass1 ! (init ! 58 refl (tt, (tt, (record { fits = room₁ .0 }, tt)))) $ pass1 ! (init ! 56 refl (tt, (tt, (record { fits = room₂ .0 }, tt)))) $
-        pass1 ! (init ! 54 refl (tt, (tt, (record { fits = room₃ .0 }, tt)))) $ pass1 ! (init ! 52 refl (tt, (tt, (record { fits = room₄ .0 }, tt)))) $
+        pass1 ! (init ! 58 refl (tt, (tt, (record { fits = room₁ .0 }, tt)))) $ pass1 !
+        (init ! 56 refl (tt, (tt, (record { fits = room₂ .0 }, tt)))) $
+        pass1 ! (init ! 54 refl (tt, (tt, (record { fits = room₃ .0 }, tt)))) $ pass1 !
+        (init ! 52 refl (tt, (tt, (record { fits = room₄ .0 }, tt)))) $
         pass1 ! (init ! 50 refl (tt, record { fits = fits₁ })) $ pass1 ! (init ! 48 refl (tt, record { fits = fits₂ })) $
         pass1 ! (init ! 46 refl (tt, record { fits = fits₃ })) $ pass1 ! (init ! 44 refl (tt, record { fits = fits₄ })) $ pass0 ! $
         assigns ! (of-opd ! (load ! (from ! (stop !)) (look ! 60 refl))) (from ! (stop !))
@@ -497,11 +614,14 @@ module _ {M : Type 1} (𝓤 : URA M) (H : Heap 𝓤) (A : Atoms 𝓤) (W : Given
         move ! (57 ∷ 31 ∷ 29 ∷ []) $ lent-on ! (room₂ .0) refl refl refl $
         -- _10, the names, their token, the counts, their token
         move ! (44 ∷ 64 ∷ 65 ∷ 66 ∷ 67 ∷ []) $ group ! 5 $
-        use1 W (later (some (λ (n : Loans). raw (Beg 𝓤 H A at-mem run .pre (beg-ghost l₁₀ n)) ⊛ ‵ (KeptBegin l₁₀ n)))) (to-begin l₁₀ (benchVal h) is fits₁) $
+        use1 W (later (some (λ (n : Loans). raw (Beg 𝓤 H A at-mem run .pre (beg-ghost l₁₀ n)) ⊛ ‵ (KeptBegin l₁₀ n))))
+        (to-begin l₁₀ (benchVal h) is fits₁) $
         await ! tt $ pick ! (λ n. split ! $
         -- _14, _16, _18, _6
-        calls-at ! fm (Beg 𝓤 H A at-mem run) known-begin (beg-ghost l₁₀ n) (arg ! 38 refl (arg ! 7 refl (arg ! 4 refl (arg ! 53 refl (no-more !))))) (λ w₁.
-        use2 W (later (some (λ (p : BeginLeft). given (Begun h ns cs beat (p .0) (p .1) w₁) (AsBefore l₁₀ (benchVal (p .1)) ns cs)))) (of-begin l₁₀ n w₁ room₁ room₂) $
+        calls-at ! fm (Beg 𝓤 H A at-mem run) known-begin (beg-ghost l₁₀ n)
+        (arg ! 38 refl (arg ! 7 refl (arg ! 4 refl (arg ! 53 refl (no-more !))))) (λ w₁.
+        use2 W (later (some (λ (p : BeginLeft). given (Begun h ns cs beat (p .0) (p .1) w₁) (AsBefore l₁₀ (benchVal (p .1)) ns cs))))
+        (of-begin l₁₀ n w₁ room₁ room₂) $
         await ! tt $ pick ! (λ p₁. learn ! (λ k₁.
         split ! $ move ! (1 ∷ []) $ split ! $ move ! (1 ∷ []) $ split ! $ move ! (1 ∷ []) $ split ! $ move ! (4 ∷ 3 ∷ 2 ∷ 0 ∷ 1 ∷ []) $
         land ! (from ! (stop !)) (init ! 47 refl (LE.lawful TS.the-type TS′.the-laws 𝓤 H A W tt .typed (p₁ .0) _ (k₁ .answer) .0)) $
@@ -517,11 +637,13 @@ module _ {M : Type 1} (𝓤 : URA M) (H : Heap 𝓤) (A : Atoms 𝓤) (W : Given
         (to-receive l₁₀ (p₁ .1) (benchVal (p₁ .1)) (k₁ .left)) $
         await ! tt $ pick ! (λ n′. split ! $
         -- _19, _21, _23, _5
-        calls-at ! fm (Rec 𝓤 H A at-mem run) known-receive (rec-ghost l₁₀ (p₁ .1) n′) (arg ! 32 refl (arg ! 7 refl (arg ! 4 refl (arg ! 55 refl (no-more !))))) (λ w₂.
+        calls-at ! fm (Rec 𝓤 H A at-mem run) known-receive (rec-ghost l₁₀ (p₁ .1) n′)
+        (arg ! 32 refl (arg ! 7 refl (arg ! 4 refl (arg ! 55 refl (no-more !))))) (λ w₂.
         use2 W (later (some (λ (p : ReceiveLeft). given (Took (p₁ .1) ns cs (x₄ .now) (p .0) (p .1 .0) (p .1 .1 .0) (p .1 .1 .1) w₂)
         (‵ (flft κ₄ q₄) ⊛ AsBefore l₁₀ (benchVal (p .1 .0)) (p .1 .1 .0) (p .1 .1 .1))))) (of-receive l₁₀ (p₁ .1) n′ w₂ room₁ room₂) $
         await ! tt $ pick ! (λ p₂. learn ! (λ k₂.
-        split ! $ move ! (1 ∷ []) $ split ! $ move ! (1 ∷ []) $ split ! $ move ! (1 ∷ []) $ split ! $ move ! (1 ∷ []) $ split ! $ move ! (4 ∷ 3 ∷ 2 ∷ 0 ∷ 1 ∷ []) $
+        split ! $ move ! (1 ∷ []) $ split ! $ move ! (1 ∷ []) $ split ! $ move ! (1 ∷ []) $ split ! $ move ! (1 ∷ []) $ split ! $ move !
+        (4 ∷ 3 ∷ 2 ∷ 0 ∷ 1 ∷ []) $
         land ! (from ! (stop !)) (init ! 46 refl (LE.lawful TT.the-type TT′.the-laws 𝓤 H A W tt .typed (p₂ .0) _ (k₂ .answer) .0)) $
         -- ---- Act: the record's address in _24
         assigns ! (addr ! (from ! (stop !))) (from ! (stop !)) (init ! 30 refl (tt, tt)) $
@@ -533,49 +655,145 @@ module _ {M : Type 1} (𝓤 : URA M) (H : Heap 𝓤) (A : Atoms 𝓤) (W : Given
         move ! (61 ∷ 24 ∷ 22 ∷ []) $ lent-on ! (room₃ .0) refl refl refl $
         -- the buffer, its token, _10, the names, their token, the counts, their token
         move ! (69 ∷ 70 ∷ 9 ∷ 10 ∷ 11 ∷ 12 ∷ 13 ∷ []) $ group ! 7 $
-        use1 W (later (some (λ (n : Loan). raw (Act 𝓤 H A at-mem run .pre (act-ghost l₁₀ (p₂ .1 .0) (p₂ .1 .1 .0) (p₂ .1 .1 .1) n)) ⊛ ‵ (KeptBench l₁₀ n))))
+        use1 W (later (some (λ (n : Loan). raw (Act 𝓤 H A at-mem run .pre (act-ghost l₁₀ (p₂ .1 .0) (p₂ .1 .1 .0) (p₂ .1 .1 .1) n)) ⊛ ‵
+        (KeptBench l₁₀ n))))
         (to-act l₁₀ (p₂ .1 .0) (p₂ .1 .1 .0) (p₂ .1 .1 .1) (benchVal (p₂ .1 .0)) (k₂ .left) fits₂ fits₃ fits₄) $
         await ! tt $ pick ! (λ n″. split ! $
         -- _24, _26, _28, _30, _7, _8, _9
         calls-at ! fm (Act 𝓤 H A at-mem run) known-act (act-ghost l₁₀ (p₂ .1 .0) (p₂ .1 .1 .0) (p₂ .1 .1 .1) n″)
         (arg ! 28 refl (arg ! 10 refl (arg ! 7 refl (arg ! 4 refl (arg ! 53 refl (arg ! 51 refl (arg ! 49 refl (no-more !)))))))) (λ w₃.
-        use2 W (later (some (λ (p : ActLeft). given (Did (p₂ .1 .0) (p₂ .1 .1 .0) (p₂ .1 .1 .1) name count priority (x₃ .now) (p .0) (p .1 .0) (p .1 .1 .0)
-        (p .1 .1 .1 .0) (p .1 .1 .1 .1) w₃) (‵ (cell l₁₀ (benchVal (p .1 .0))) ⊛ Ended p)))) (of-act l₁₀ (p₂ .1 .0) (p₂ .1 .1 .0) (p₂ .1 .1 .1) n″ w₃) $
+        use2 W (later (some (λ (p : ActLeft). given
+        (Did (p₂ .1 .0) (p₂ .1 .1 .0) (p₂ .1 .1 .1) name count priority (x₃ .now) (p .0) (p .1 .0) (p .1 .1 .0)
+        (p .1 .1 .1 .0) (p .1 .1 .1 .1) w₃) (‵ (cell l₁₀ (benchVal (p .1 .0))) ⊛ Ended p))))
+        (of-act l₁₀ (p₂ .1 .0) (p₂ .1 .1 .0) (p₂ .1 .1 .1) n″ w₃) $
         await ! tt $ pick ! (λ p₃. learn ! (λ k₃. split ! $
         land ! (from ! (stop !)) (init ! 42 refl (LE.lawful TM.the-type TM′.the-laws 𝓤 H A W tt .typed (p₃ .0) _ (k₃ .answer) .0)) $
         -- ---- what is given: _11, _12, _13 and the record, copied to _31, in _0
         assigns ! (of-opd ! (load ! (from ! (stop !)) (look ! 0 refl))) (from ! (stop !))
         (init ! 20 refl (LL.lawful T.the-type T′.the-laws 𝓤 H A W .typed (p₃ .1 .0) _ (k₃ .left) .0)) $
         assigns ! (agg ! (arg ! 46 refl (arg ! 44 refl (arg ! 42 refl (arg ! 20 refl (no-more !)))))) (from ! (stop !))
-        (init ! 64 refl (LL.lawful TR.the-type TR′.the-laws 𝓤 H A W .typed (gathered-of p₁ p₂ p₃) _ (is-gathered p₁ p₂ p₃ w₁ w₂ w₃ k₁ k₂ k₃) .0)) $
+        (init ! 64 refl (LL.lawful TR.the-type TR′.the-laws 𝓤 H A W .typed (gathered-of p₁ p₂ p₃) _
+        (is-gathered p₁ p₂ p₃ w₁ w₂ w₃ k₁ k₂ k₃) .0)) $
         returns ! (look ! 64 refl) $
         -- the locals, with what frees each
-        move ! (64 ∷ 65 ∷ 62 ∷ 63 ∷ 8 ∷ 61 ∷ 5 ∷ 60 ∷ 2 ∷ 59 ∷ 57 ∷ 58 ∷ 55 ∷ 56 ∷ 53 ∷ 54 ∷ 51 ∷ 52 ∷ 49 ∷ 50 ∷ 0 ∷ 48 ∷ 46 ∷ 47 ∷ 44 ∷ 45 ∷ 42 ∷ 43 ∷ 40 ∷ 41 ∷ 18
-        ∷ 39 ∷ 19 ∷ 38 ∷ 16 ∷ 37 ∷ 17 ∷ 36 ∷ 34 ∷ 35 ∷ 14 ∷ 33 ∷ 15 ∷ 32 ∷ 12 ∷ 31 ∷ 13 ∷ 30 ∷ 28 ∷ 29 ∷ 9 ∷ 27 ∷ 10 ∷ 26 ∷ 6 ∷ 25 ∷ 7 ∷ 24 ∷ 3 ∷ 23 ∷ 4 ∷ 22 ∷ 20
+        move ! (64 ∷ 65 ∷ 62 ∷ 63 ∷ 8 ∷ 61 ∷ 5 ∷ 60 ∷ 2 ∷ 59 ∷ 57 ∷ 58 ∷ 55 ∷ 56 ∷ 53 ∷ 54 ∷ 51 ∷ 52 ∷ 49 ∷ 50 ∷ 0 ∷ 48 ∷ 46 ∷ 47 ∷ 44 ∷ 45
+        ∷ 42 ∷ 43 ∷ 40 ∷ 41 ∷ 18
+        ∷ 39 ∷ 19 ∷ 38 ∷ 16 ∷ 37 ∷ 17 ∷ 36 ∷ 34 ∷ 35 ∷ 14 ∷ 33 ∷ 15 ∷ 32 ∷ 12 ∷ 31 ∷ 13 ∷ 30 ∷ 28 ∷ 29 ∷ 9 ∷ 27 ∷ 10 ∷ 26 ∷ 6 ∷ 25 ∷ 7 ∷ 24
+        ∷ 3 ∷ 23 ∷ 4 ∷ 22 ∷ 20
         ∷ 21 ∷ []) $
-        all-freed ! _ (_, (_, (_, (_, (_, (_, (_, (_, (_, (_, (_, (_, (_, (_, (_, (_, (_, (_, (_, (_, (_, (_, (_, (_, (_, (_, (_, (_, (_, (_, (_, (_, tt)))))))))))))))))))))))))))))))) $
+        all-freed ! _ (
+          _,
+          (
+            _,
+            (
+              _,
+              (
+                _,
+                (
+                  _,
+                  (
+                    _,
+                    (
+                      _,
+                      (
+                        _,
+                        (
+                          _,
+                          (
+                            _,
+                            (
+                              _,
+                              (
+                                _,
+                                (
+                                  _,
+                                  (
+                                    _,
+                                    (_, (_, (_, (_, (_, (_, (_, (_, (_, (_, (_, (_, (_, (_, (_, (_, (_, (_, tt)))))))))))))))))),
+                                  ),
+                                ),
+                              ),
+                            ),
+                          ),
+                        ),
+                      ),
+                    ),
+                  ),
+                ),
+              ),
+            ),
+          ),
+        ) $
         keep ! (0 ∷ 1 ∷ []) $ by ! (exits p₁ p₂ p₃ w₁ w₂ w₃ k₁ k₂ k₃)))))))))))))))))))))))))))))))))))))))))))))
 
 module _ {M : Type 1} (𝓤 : URA M) (H : Heap 𝓤) (A : Atoms 𝓤) (W : Given 𝓤 H A) (at-mem : Memory → SProp 𝓤) (run : Routine → Fun 𝓤) where
-  gather-walks : (C : Calls 𝓤 H) (Λ : Loops 𝓤 H) → FmC 𝓤 H (W .laws) C → Triple 𝓤 (C #begin) (Beg 𝓤 H A at-mem run) → Triple 𝓤 (C #receive) (Rec 𝓤 H A at-mem run)
-      → Triple 𝓤 (C #act) (Act 𝓤 H A at-mem run) → Walks 𝓤 H A here.ended stayed (WpFn 𝓤 H C Λ code.function) (here.clauses 𝓤 H A at-mem run)
-  gather-walks C Λ fm known-begin known-receive known-act = walked 𝓤 H A here.ended stayed (here.clauses 𝓤 H A at-mem run) (WpFn 𝓤 H C Λ code.function)
-      (λ κs. (LL.vals T.the-type T′.the-laws, (slice-vals, (slice-vals, (slice-vals, (slice-vals, (uint-vals w32, (uint-vals w64, (uint-vals w16, (uint-vals w64, tt))))))))))
-      (λ κs. (LL.tells T.the-type T′.the-laws, (mut-slice-tells (named 0) (κs .0) u64, (mut-slice-tells (named 1) (κs .1 .0) u16, (mut-slice-tells (named 2) (κs .1 .1 .0) u8, (shr-slice-tells (named 3) (κs .1 .1 .1 .0) u8, (uint-tells w32, (uint-tells w64, (uint-tells w16, (uint-tells w64, tt))))))))))
-      (λ κs qs bounds a g are. via 𝓤 _ (fst∗ 𝓤 _ (emp 𝓤)) (walk 𝓤 H A W at-mem run (κs .0) (κs .1 .0) (κs .1 .1 .0) (κs .1 .1 .1 .0) (qs .0) (qs .1 .0) (qs .1 .1 .0)
+  gather-walks : (C : Calls 𝓤 H) (Λ : Loops 𝓤 H) → FmC 𝓤 H (W .laws) C → Triple 𝓤 (C #begin) (Beg 𝓤 H A at-mem run)
+      → Triple 𝓤 (C #receive) (Rec 𝓤 H A at-mem run)
+      → Triple 𝓤 (C #act) (Act 𝓤 H A at-mem run)
+      → Walks 𝓤 H A here.ended stayed (WpFn 𝓤 H C Λ code.function) (here.clauses 𝓤 H A at-mem run)
+  gather-walks C Λ fm known-begin known-receive known-act =
+      walked 𝓤 H A here.ended stayed (here.clauses 𝓤 H A at-mem run) (WpFn 𝓤 H C Λ code.function)
+      (λ κs. (
+        LL.vals T.the-type T′.the-laws,
+        (slice-vals, (slice-vals, (slice-vals, (slice-vals, (uint-vals w32, (uint-vals w64, (uint-vals w16, (uint-vals w64, tt)))))))),
+      ))
+      (λ κs. (
+        LL.tells T.the-type T′.the-laws,
+        (
+          mut-slice-tells (named 0) (κs .0) u64,
+          (
+            mut-slice-tells (named 1) (κs .1 .0) u16,
+            (
+              mut-slice-tells (named 2) (κs .1 .1 .0) u8,
+              (shr-slice-tells (named 3) (κs .1 .1 .1 .0) u8, (uint-tells w32, (uint-tells w64, (uint-tells w16, (uint-tells w64, tt))))),
+            ),
+          ),
+        ),
+      ))
+      (λ κs qs bounds a g are. via 𝓤 _ (fst∗ 𝓤 _ (emp 𝓤))
+      (walk 𝓤 H A W at-mem run (κs .0) (κs .1 .0) (κs .1 .1 .0) (κs .1 .1 .1 .0) (qs .0) (qs .1 .0) (qs .1 .1 .0)
       (qs .1 .1 .1 .0) (a .1 .0 .name) (a .1 .1 .0 .name)
-      (a .1 .0 .ptr .0) (a .1 .0 .ptr .1) (a .1 .1 .0 .ptr .0) (a .1 .1 .0 .ptr .1) (a .1 .0 .now) (a .1 .1 .0 .now) (a .1 .1 .1 .0) (a .1 .1 .1 .1 .0) (a .0)
+      (a .1 .0 .ptr .0) (a .1 .0 .ptr .1) (a .1 .1 .0 .ptr .0) (a .1 .1 .0 .ptr .1) (a .1 .0 .now) (a .1 .1 .0 .now) (a .1 .1 .1 .0)
+      (a .1 .1 .1 .1 .0) (a .0)
       (a .1 .1 .1 .1 .1 .0) (a .1 .1 .1 .1 .1 .1 .0) (a .1 .1 .1 .1 .1 .1 .1 .0) (a .1 .1 .1 .1 .1 .1 .1 .1 .0)
-      C Λ fm known-begin known-receive known-act (are .0) (are .1 .0 .0 .1) (are .1 .1 .0 .0 .1) (are .1 .1 .1 .0 .0 .1) (are .1 .1 .1 .1 .0 .0 .1)
+      C Λ fm known-begin known-receive known-act (are .0) (are .1 .0 .0 .1) (are .1 .1 .0 .0 .1) (are .1 .1 .1 .0 .0 .1)
+      (are .1 .1 .1 .1 .0 .0 .1)
       (are .1 .1 .1 .1 .1 .0 .1) (are .1 .1 .1 .1 .1 .1 .0 .1) (are .1 .1 .1 .1 .1 .1 .1 .0 .1) (are .1 .1 .1 .1 .1 .1 .1 .1 .0 .1)))
 
   goes : AllGo 𝓤 H A W 4 (here.signature .params) (here.ended .kept) stayed
-  goes = (goes-dropped 𝓤 H A W 4 (plain (λ _. T.the-row)) yes (λ κs x f. refl), (goes-gave-slice 𝓤 H A W 4 0 tt (plain (λ _. u64)), (goes-gave-slice 𝓤 H A W 4 1 tt (plain (λ _. u16)), (goes-gave-slice 𝓤 H A W 4 2 tt (plain (λ _. u8)), (goes-dropped 𝓤 H A W 4 (shrSliceOf (3 ∷ []) tt (plain (λ _. u8))) yes (λ κs x f. refl), (goes-dropped 𝓤 H A W 4 (plain (λ _. u32)) yes (λ κs x f. refl), (goes-dropped 𝓤 H A W 4 (plain (λ _. u64)) yes (λ κs x f. refl), (goes-dropped 𝓤 H A W 4 (plain (λ _. u16)) yes (λ κs x f. refl), (goes-dropped 𝓤 H A W 4 (plain (λ _. u64)) yes (λ κs x f. refl), tt)))))))))
+  goes = (
+    goes-dropped 𝓤 H A W 4 (plain (λ _. T.the-row)) yes (λ κs x f. refl),
+    (
+      goes-gave-slice 𝓤 H A W 4 0 tt (plain (λ _. u64)),
+      (
+        goes-gave-slice 𝓤 H A W 4 1 tt (plain (λ _. u16)),
+        (
+          goes-gave-slice 𝓤 H A W 4 2 tt (plain (λ _. u8)),
+          (
+            goes-dropped 𝓤 H A W 4 (shrSliceOf (3 ∷ []) tt (plain (λ _. u8))) yes (λ κs x f. refl),
+            (
+              goes-dropped 𝓤 H A W 4 (plain (λ _. u32)) yes (λ κs x f. refl),
+              (
+                goes-dropped 𝓤 H A W 4 (plain (λ _. u64)) yes (λ κs x f. refl),
+                (
+                  goes-dropped 𝓤 H A W 4 (plain (λ _. u16)) yes (λ κs x f. refl),
+                  (goes-dropped 𝓤 H A W 4 (plain (λ _. u64)) yes (λ κs x f. refl), tt),
+                ),
+              ),
+            ),
+          ),
+        ),
+      ),
+    ),
+  )
 
-gather-meets : {M : Type 1} (𝓤 : URA M) (H : Heap 𝓤) (A : Atoms 𝓤) → Given 𝓤 H A → (at-mem : Memory → SProp 𝓤) (run : Routine → Fun 𝓤) (𝓣 : Tables 𝓤 H)
-    → Triple 𝓤 (𝓣 .C #begin) (Beg 𝓤 H A at-mem run) → Triple 𝓤 (𝓣 .C #receive) (Rec 𝓤 H A at-mem run) → Triple 𝓤 (𝓣 .C #act) (Act 𝓤 H A at-mem run)
+gather-meets : {M : Type 1} (𝓤 : URA M) (H : Heap 𝓤) (A : Atoms 𝓤) → Given 𝓤 H A
+    → (at-mem : Memory → SProp 𝓤) (run : Routine → Fun 𝓤) (𝓣 : Tables 𝓤 H)
+    → Triple 𝓤 (𝓣 .C #begin) (Beg 𝓤 H A at-mem run) → Triple 𝓤 (𝓣 .C #receive) (Rec 𝓤 H A at-mem run)
+    → Triple 𝓤 (𝓣 .C #act) (Act 𝓤 H A at-mem run)
     → Meets 𝓤 H A here.signature (WpFn 𝓤 H (𝓣 .C) (𝓣 .Λ) code.function) (here.spec 𝓤 H A at-mem run)
-gather-meets 𝓤 H A W at-mem run 𝓣 known-begin known-receive known-act = walk-meets 𝓤 H A here.ended stayed W (goes 𝓤 H A W at-mem run) (here.clauses 𝓤 H A at-mem run)
+gather-meets 𝓤 H A W at-mem run 𝓣 known-begin known-receive known-act =
+    walk-meets 𝓤 H A here.ended stayed W (goes 𝓤 H A W at-mem run) (here.clauses 𝓤 H A at-mem run)
     (WpFn 𝓤 H (𝓣 .C) (𝓣 .Λ) code.function) (WpFn-mono 𝓤 H (W .laws) 𝓣 code.function)
     (gather-walks 𝓤 H A W at-mem run (𝓣 .C) (𝓣 .Λ) (fmOf 𝓤 H (W .laws) 𝓣) known-begin known-receive known-act)
 
