@@ -1,9 +1,18 @@
 //! The proved functions of a roll, through the static library. Nothing checks these declarations against the Rattle source, so
 //! they are the only ones there are.
+use crate::history::entries::Found;
 
 extern "C" {
     fn cervakho_roll_text(roll: *const u8, roll_len: usize, text: *mut u8, text_len: usize) -> usize;
     fn cervakho_roll_made(roll: *const u8, roll_len: usize, event: usize, out: *mut u8, out_len: usize) -> usize;
+    fn cervakho_roll_entry(
+        roll: *const u8,
+        roll_len: usize,
+        calls: usize,
+        entry: u32,
+        found: *mut u8,
+        found_len: usize,
+    ) -> usize;
     fn cervakho_roll_page(
         roll: *const u8,
         roll_len: usize,
@@ -23,6 +32,8 @@ pub const LEAST_BUFFER: usize = 65_536;
 pub const LEAST_OUT: usize = 656;
 /// The places that a bench asks of each lent list.
 pub const LEAST_LENT: usize = 6_208;
+/// The bytes that a look-up asks of its buffer: the block's place, and the place inside it in two bytes.
+pub const LEAST_FOUND: usize = 3;
 /// The bytes of a page.
 pub const PAGE_LENGTH: usize = 337;
 
@@ -48,6 +59,29 @@ pub fn roll_made(roll: &[u8], event: usize) -> Option<Vec<u8>> {
     let length = unsafe { cervakho_roll_made(roll.as_ptr(), roll.len(), event, out.as_mut_ptr(), out.len()) };
     out.truncate(length);
     (length > 0).then_some(out)
+}
+
+/// The entry of a number after the first calls of a roll, into a lent buffer: 3, and the block's place and the place inside it,
+/// lowest byte first; or 1, and the refusal's number; or 0, and nothing is written, where the buffer is under `LEAST_FOUND` bytes,
+/// the roll is none or it has fewer calls.
+pub fn write_roll_entry(roll: &[u8], calls: usize, entry: u32, found: &mut [u8]) -> usize {
+    // SAFETY: both slices are valid for their lengths; the function is proved to stay inside them for every roll and buffer.
+    unsafe { cervakho_roll_entry(roll.as_ptr(), roll.len(), calls, entry, found.as_mut_ptr(), found.len()) }
+}
+
+/// The entry of a number after the first calls of a roll, or the refusal's number; none, if the roll is none or has fewer calls.
+pub fn roll_entry(roll: &[u8], calls: usize, entry: u32) -> Option<Result<Found, u8>> {
+    let mut found = [0; LEAST_FOUND];
+    let length = write_roll_entry(roll, calls, entry, &mut found);
+    let [block, low, high] = found;
+    match length {
+        1 => Some(Err(block)),
+        LEAST_FOUND => Some(Ok(Found {
+            block,
+            inside: u16::from_le_bytes([low, high]),
+        })),
+        _ => None,
+    }
 }
 
 /// What a bench holds: its lent lists, and its record as a page.

@@ -1,5 +1,7 @@
 //! The tests of the whole, and the programs with theirs. They are part of the library's own tests (src/lib.rs), so that `cargo test`
 //! builds it once.
+mod entries;
+mod records;
 mod rolls;
 mod sketches;
 mod taught;

@@ -15,6 +15,7 @@ use Rattle.message.specs.Numbers.{AllBelow, put}
 use Rattle.message.specs.Logs.{Log, sameLog, namesOf, countsOf}
 use Rattle.message.specs.Message.{countIn, logIn}
 use Rattle.message.specs.Store.{logAt}
+use Rattle.message.proofs.TestLaws.{or-false}
 use Rattle.message.proofs.Acceptance.{length-blocks}
 use Rattle.message.proofs.ListedLaws.{log-before, log-past}
 use Rattle.message.proofs.PartLaws.{length-put, put-all-below}
@@ -24,7 +25,7 @@ use Rattle.agreement.specs.Record.{Agreement, isVoter, isEquivocator, fi
 use Rattle.agreement.specs.Filing.{unfit, fileOf, Fit}
 use Rattle.agreement.specs.Proposals.{Proposals, fileProposalOf}
 use Rattle.agreement.specs.Kept.{nothing, only, differing, keptLog, keptProposal}
-use Rattle.agreement.proofs.FilingLaws.{few-blocks}
+use Rattle.agreement.proofs.FilingLaws.{few-blocks, fit}
 use Rattle.agreement.proofs.KeptLaws.{cases}
 
 -- k places from a on lie outside the w places from b on
@@ -93,6 +94,44 @@ module _ (names counts : List ℕ) (base : ℕ) (s : List ℕ) (i : ℕ) (f : Fi
       (λ q v e. rw (q, v, e) (untouched base span names counts))
       (λ q v e. rw (q, v, e) (untouched base span names counts))
       (λ q v. rw (q, v) stored)
+
+-- ---- past the span nothing changes, whatever is filed and from whom
+
+module _ (names counts : List ℕ) (base : ℕ) (s : List ℕ) (i a k : ℕ) (past : base + span ≤ a) where
+  abbrev Same : List ℕ → List ℕ → Type 0
+  Same ns cs = logAt ns cs a k ≡ logAt names counts a k
+
+  stored-past : Fit names counts base s i
+      → Same (put names (placeOf base i) (namesOf (logIn s))) (put counts (placeOf base i) (countsOf (logIn s)))
+  stored-past f =
+      let e = length-blocks s (countIn s) in
+      let b = few-blocks names counts base s i f in
+      let h = f .few in
+      log-past names counts (placeOf base i) (logIn s) a k (omega arith)
+
+  pub file-past : (g : Agreement) → Same (fileOf g names counts base s i .names) (fileOf g names counts base s i .counts)
+  unfolding fileOf
+  file-past g =
+      cases (Same (fileOf g names counts base s i .names) (fileOf g names counts base s i .counts))
+      (unfit names counts base s i || isEquivocator g i) (isVoter g i) (sameLog (logIn s) (filedLog names counts base (g .lengths) i))
+      (λ q. rw q refl)
+      (λ q v e. rw (q, v, e) refl)
+      (λ q v e. rw (q, v, e) refl)
+      (λ q v. rw (q, v) (stored-past (fit names counts base s i (or-false (unfit names counts base s i) (isEquivocator g i) q .0))))
+
+  pub proposal-past : (g : Proposals) (priority : ℕ)
+      → Same (fileProposalOf g names counts base s i priority .names) (fileProposalOf g names counts base s i priority .counts)
+  unfolding fileProposalOf
+  proposal-past g priority =
+      cases (Same (fileProposalOf g names counts base s i priority .names) (fileProposalOf g names counts base s i priority .counts))
+      (unfit names counts base s i || member (g .marks .aside) i) (member (g .marks .filed) i)
+      (sameLog (logIn s) (filedLog names counts base (g .lengths) i) && eqb priority (getD (g .priorities) i 0))
+      (λ q. rw q refl)
+      (λ q v e. rw (q, v, e) refl)
+      (λ q v e. rw (q, v, e) refl)
+      (λ q v.
+      let fits = or-false (unfit names counts base s i) (member (g .marks .aside) i) q .0 in
+      rw (q, v) (stored-past (fit names counts base s i fits)))
 
 -- ---- what is kept in another span
 

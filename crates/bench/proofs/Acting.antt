@@ -20,12 +20,12 @@ use Rattle.bench.specs.Terms.{Seat}
 use Rattle.bench.specs.Layout.{decidedPlace}
 use Rattle.bench.specs.Calendar.{lastView, viewBeat, inputBeat, snapshotBeat, snapshotTaken, closeBeat, viewOf, placeIn, Act, actAt}
 use Rattle.bench.specs.Calls.{act, acted, openTo, Typed, State, Core, coreOf}
-use Rattle.bench.specs.Acts.{Seen, mayPropose, isView, propose, vote, makes, outAfter, decides}
+use Rattle.bench.specs.Acts.{Seen, mayPropose, isView, propose, vote, makes, outAfter, decides, settle}
 use Rattle.bench.specs.Causes.{actCauses}
 use Rattle.bench.specs.History.{History, beatNow, refusal, seenAt, madeBy, decidedBy, fileMade, closed, accepted, answer}
 use Rattle.bench.specs.History.{acceptedAnswer, standIn}
 use Rattle.bench.specs.Record.{agreementOf, proposalsOf, beatOf, idle, Bench}
-use Rattle.bench.specs.ByRecord.{stepBy, usedOf, seenOf, snappedBy, snapped, changed, withMade, actedOf, over, actedNow, actOf}
+use Rattle.bench.specs.ByRecord.{actStep, usedOf, seenOf, snappedBy, snapped, changed, withMade, actedOf, over, actedNow, actOf}
 use Rattle.bench.proofs.Valid.{Valid}
 use Rattle.bench.proofs.ValidAgreements.{snapshot-valid}
 use Rattle.bench.proofs.ValidBench.{with-agreement-valid}
@@ -34,6 +34,8 @@ use Rattle.bench.proofs.HistoryActs.{views-some}
 use Rattle.bench.proofs.GoodHistory.{decided-good, made-good}
 use Rattle.bench.proofs.Refinement.{Filled, lastOf, Refines}
 use Rattle.bench.proofs.FilingRefinement.{file-refines}
+use Rattle.bench.proofs.TotalRefinement.{Totalled, totals-extend}
+use Rattle.bench.proofs.CallLaws.{accepted-actions-act}
 use Rattle.bench.proofs.CallRefinement.{Agrees, agrees-by, beat-same, idle-same, started, carries-read}
 use Rattle.bench.proofs.SeenRefinement.{makes-same, decides-same}
 use Rattle.bench.proofs.Settling.{Settled, decision-settled}
@@ -230,13 +232,22 @@ module _ (S : Seat) (s : Core) (p : History) (t : Refines S s p) (busy : p .gath
                 (closed p (madeBy S p block priority) (decidedBy S p)) changes next-kept (madeBy S p block priority) refl),
           )
 
-pub act-agrees : (S : Seat) (s : State) (p : History) → Refines S (coreOf s) p → (block : Block) (priority : ℕ) (out : List ℕ)
+-- the decision is settled in what stands
+acted-stand : (S : Seat) (p : History) (block : Block) (priority : ℕ) (out : List ℕ)
+    → standIn (S .stood) (accepted S p (act block priority out) .actions) ≡ settle (standIn (S .stood) (p .actions)) (decidedBy S p)
+unfolding standIn
+acted-stand S p block priority out = ap (standIn (S .stood)) (accepted-actions-act S p block priority out)
+
+pub act-agrees : (S : Seat) (s : State) (p : History) → Refines S (coreOf s) p → Totalled s → (block : Block) (priority : ℕ)
+    (out : List ℕ)
     → Typed (act block priority out)
     → Agrees S s p (act block priority out) (actOf s block priority out)
 unfolding actOf refusal
-act-agrees S s p t block priority out typed =
+act-agrees S s p t u block priority out typed =
     let same = idle-same t in
-    agrees-by S s p t (act block priority out) (actCauses out (idle (s .bench))) (stepBy s (actedNow (coreOf s) block priority out))
+    agrees-by S s p t u (act block priority out) (actCauses out (idle (s .bench))) (actStep s (actedNow (coreOf s) block priority out))
     (rw same) (λ e.
     let (short, (i, end)) = passes (actCauses out (idle (s .bench))) e in
-    act-accepted S (coreOf s) p t (not-false (p .gathering) (sym same ∙ i)) block priority (typed .0, typed .1, typed .2) out)
+    let busy = not-false (p .gathering) (sym same ∙ i) in
+    let (a, r) = act-accepted S (coreOf s) p t busy block priority (typed .0, typed .1, typed .2) out in
+    (a, r, totals-extend (decidedBy S p) t r u (acted-stand S p block priority out)))

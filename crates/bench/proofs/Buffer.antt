@@ -1,6 +1,6 @@
 -- The outgoing buffer after an Act, for every record, list, offer and buffer: a made message stands at its front, and the bytes past it
 -- keep their values; where nothing is made, refused Acts included, all of them do. A made message always has room: it has 64 blocks at the
--- most. Begin and Receive have no buffer. Assumes nothing.
+-- most. The other calls have no buffer. Assumes nothing.
 use Prim.Native.Nat.{ℕ, zero, suc, _+_, _≤_, _<_}
 use native.Mathlib.Omega.{arith}
 use mathlib.Core.Bool.{false, not, and-eq-true-iff}
@@ -26,13 +26,13 @@ use Rattle.agreement.proofs.RecordLaws.{by-short}
 use Rattle.agreement.proofs.GradeSources.{vote-from}
 use Rattle.bench.specs.Layout.{logsPlace, proposalsPlace, mostBytes}
 use Rattle.bench.specs.Calendar.{viewOf, placeIn, Act, proposing, voting, deciding, snapping, actAt}
-use Rattle.bench.specs.Calls.{Reply, refused, done, took, acted, State, Core, coreOf, Step}
+use Rattle.bench.specs.Calls.{Reply, refused, done, took, acted, found, State, Core, coreOf, Step}
 use Rattle.bench.specs.Acts.{mayPropose, propose, vote, isView, inViews, makes, outAfter}
 use Rattle.bench.specs.Record.{agreementOf, proposalsOf, beatOf, tooLong, badProposer, anyPlace, beyondProposals, Bench}
-use Rattle.bench.specs.ByRecord.{refuse, stepBy, begun, beginRows, beginOf, fileMessage, taken, receiveRows, receiveOf, usedOf}
-use Rattle.bench.specs.ByRecord.{seenOf, over, actedOf, actedNow, actRows, actOf}
+use Rattle.bench.specs.ByRecord.{refuse, stepBy, actStep, begun, beginRows, beginOf, fileMessage, taken, receiveRows, receiveOf}
+use Rattle.bench.specs.ByRecord.{usedOf, seenOf, over, actedOf, actedNow, actRows, actOf}
 use Rattle.bench.specs.Tested.{Tested}
-use Rattle.bench.proofs.TestedLaws.{within-limits, long-out}
+use Rattle.bench.proofs.TestedLaws.{within-limits, long-blocks, long-out}
 use Rattle.bench.proofs.Valid.{no-place}
 use Rattle.bench.proofs.ValidAgreements.{getD-all}
 
@@ -43,6 +43,7 @@ madeIn (refused k) = none
 madeIn done = none
 madeIn (took w) = none
 madeIn (acted m) = m
+madeIn (found block inside) = none
 
 -- ---- logs that are read have 64 blocks at the most
 
@@ -134,8 +135,8 @@ begin-out s beat =
 pub receive-out : (s : State) (bytes : List ℕ) → receiveOf s bytes .answer .out ≡ []
 unfolding receiveOf
 receive-out s bytes =
-    judged (refuse s []) (stepBy s (taken (fileMessage (coreOf s) bytes (meaningIn bytes)))) (λ (r : Step). r .answer .out ≡ [])
-    (receiveRows s bytes)
+    judged (refuse s []) (stepBy (s .lent .totals) (taken (fileMessage (coreOf s) bytes (meaningIn bytes))))
+    (λ (r : Step). r .answer .out ≡ []) (receiveRows s bytes)
     (λ k e. refl)
     (λ e. refl)
 
@@ -150,14 +151,14 @@ module _ (s : State) (block : Block) (priority : ℕ) (out : List ℕ) where
 
   -- what holds of each refused Act, and of what is done
   by-causes : (P : Step → Type 0) → ((k : ℕ) → P (refuse s out k))
-      → (Tested (coreOf s) out → P (stepBy s (actedNow (coreOf s) block priority out))) → P (actOf s block priority out)
+      → (Tested (coreOf s) out → P (actStep s (actedNow (coreOf s) block priority out))) → P (actOf s block priority out)
   unfolding actOf
   by-causes P f g =
-      judged (refuse s out) (stepBy s (actedNow (coreOf s) block priority out)) P (actRows s out)
+      judged (refuse s out) (actStep s (actedNow (coreOf s) block priority out)) P (actRows s out)
       (λ k e. f k)
       (λ e.
-      let (limits, (lists, (room, rest))) = passes (actRows s out) e in
-      g (record { usable = record { limits = limits; lists = lists }; room = room }))
+      let (limits, (lists, (right, (room, rest)))) = passes (actRows s out) e in
+      g (record { usable = record { limits = limits; lists = long-blocks (s .lent) lists }; room = room }))
 
   -- one equation, refused Acts included
   pub act-out : actOf s block priority out .answer .out ≡ outAfter (madeIn (actOf s block priority out .answer .reply)) out
@@ -192,14 +193,14 @@ module _ (s : State) (block : Block) (priority : ℕ) (out : List ℕ) where
 -- What the buffer holds shows nowhere else: neither in what is made nor in what is held.
 module _ (s : State) (block : Block) (priority : ℕ) (out o : List ℕ) (e : ltb (length out) mostBytes ≡ ltb (length o) mostBytes) where
   same-but : {B : Type 0} (h : Step → B) → ((k : ℕ) → h (refuse s out k) ≡ h (refuse s o k))
-      → ((v : ℕ) (a : Act) → h (stepBy s (actedOf (over (coreOf s)) block priority out v a)) ≡ h
-      (stepBy s (actedOf (over (coreOf s)) block priority o v a)))
+      → ((v : ℕ) (a : Act) → h (actStep s (actedOf (over (coreOf s)) block priority out v a)) ≡ h
+      (actStep s (actedOf (over (coreOf s)) block priority o v a)))
       → h (actOf s block priority out) ≡ h (actOf s block priority o)
   unfolding actOf
   same-but h d f =
       rw e (judged-alike h (actRows s o) (refuse s out) (refuse s o)
-      (stepBy s (actedNow (coreOf s) block priority out))
-      (stepBy s (actedNow (coreOf s) block priority o))
+      (actStep s (actedNow (coreOf s) block priority out))
+      (actStep s (actedNow (coreOf s) block priority o))
       d (f (viewOf (beatOf (s .bench))) (actAt (placeIn (beatOf (s .bench))))))
 
   pub same-reply : actOf s block priority out .answer .reply ≡ actOf s block priority o .answer .reply

@@ -19,7 +19,7 @@ use Rattle.agreement.specs.Heard.{heardLogs}
 use Rattle.bench.specs.Terms.{Seat}
 use Rattle.bench.specs.Layout.{mostBytes}
 use Rattle.bench.specs.Calendar.{lastBeat}
-use Rattle.bench.specs.Calls.{Call, begin, receive, act, done, took, Answer, openTo}
+use Rattle.bench.specs.Calls.{Call, begin, receive, act, done, took, Answer, openTo, find}
 use Rattle.bench.specs.History.{ActRecord, History, beatNow, notAbove, refusal, wordFor, file, fileMade, closed, madeBy, decidedBy}
 use Rattle.bench.specs.History.{accepted, wordRead, acceptedAnswer, step, answer, causes}
 
@@ -134,7 +134,7 @@ unfolding file
 file-gathering p (logMessage h) = refl
 file-gathering p (proposalMessage h k) = refl
 
-file-actions : (p : History) (m : Meaning) → file p m .actions ≡ p .actions
+pub file-actions : (p : History) (m : Meaning) → file p m .actions ≡ p .actions
 unfolding file
 file-actions p (logMessage h) = refl
 file-actions p (proposalMessage h k) = refl
@@ -204,6 +204,11 @@ pub accepted-act : (S : Seat) (p : History) (block : Block) (priority : ℕ) (ou
     → accepted S p (act block priority out) ≡ fileMade (closed p (madeBy S p block priority) (decidedBy S p)) (madeBy S p block priority)
 unfolding accepted
 accepted-act S p block priority out = refl
+
+-- a look-up changes nothing
+pub accepted-find : (S : Seat) (p : History) (e : ℕ) → accepted S p (find e) ≡ p
+unfolding accepted
+accepted-find S p e = refl
 
 -- what is recorded of an act
 abbrev pub recordOf : (S : Seat) → History → Block → ℕ → ActRecord

@@ -18,7 +18,7 @@ use Rattle.agreement.specs.Heard.{heardLogs, ProposalHeard, heardProposals, vot
 use Rattle.agreement.proofs.GradeSources.{GradeSource, gradeNow-source, gradeWith-source, heard-source, vote-from, proposed-source}
 use Rattle.bench.specs.Terms.{Seat, weightOf}
 use Rattle.bench.specs.Calendar.{viewOf, placeIn, Act, proposing, voting, deciding, snapping, actAt}
-use Rattle.bench.specs.Calls.{Call, begin, receive, act, Typed, AllTyped}
+use Rattle.bench.specs.Calls.{Call, begin, receive, act, find, Typed, AllTyped}
 use Rattle.bench.specs.Acts.{mayPropose, propose, vote, isView, inViews, makes, decides}
 use Rattle.bench.specs.History.{History, fresh, beatNow, refusal, file, gradeAt, usedAt, seenAt, madeBy, decidedBy, fileRead}
 use Rattle.bench.specs.History.{fileMade, closed, accepted, orAccepted, step, afterFrom, after}
@@ -171,6 +171,7 @@ good-accepted S p (act block priority out) lo t g =
     fileMade-good S (closed p (madeBy S p block priority) (decidedBy S p)) (madeBy S p block priority)
     (made S block priority lo (t .0) (t .1) (t .2) p g)
     (record { heard = g .heard; proposals = g .proposals; priorities = g .priorities })
+good-accepted S p (find e) lo t g = g
 
 -- every call, and every list of calls
 step-good : (S : Seat) (p : History) (c : Call) → S .own < S .terms .n → Typed c → GoodHistory S p → GoodHistory S (step S p c)

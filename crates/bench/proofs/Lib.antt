@@ -6,6 +6,9 @@ pub mod CallLaws
 pub mod HistoryActs
 pub mod HistoryLaws
 pub mod GoodHistory
+-- Running totals of entries, and where an entry stands:
+pub mod TotalLaws
+pub mod TotalSteps
 -- Records within their limits, and which agreement is whose:
 pub mod Valid
 pub mod ValidAgreements
@@ -17,17 +20,20 @@ pub mod Refusals
 pub mod TestedLaws
 pub mod LimitLaws
 pub mod Buffer
+pub mod ActTotals
 pub mod NoEightNine
 -- The code's answers, read as document 01's:
 pub mod Replies
 -- An act, case by case:
 pub mod ActLaws
+pub mod DecidedLaws
 -- The refinement between record and history, kept by every call:
 pub mod Refinement
 pub mod Filling
 pub mod LogRefinement
 pub mod ProposalRefinement
 pub mod FilingRefinement
+pub mod TotalRefinement
 pub mod CallRefinement
 pub mod SeenRefinement
 pub mod Settling
@@ -40,3 +46,4 @@ pub mod Windows
 pub mod Sample
 pub mod MadeTable
 pub mod WithinTable
+pub mod EntryTable

@@ -4,6 +4,7 @@ use mathlib.Core.List.{List, [], _∷_, _++_, map}
 use mathlib.Core.Option.{Option, some, none}
 use mathlib.Core.Path.{_≡_, refl}
 use lib.ListN.{length, replicate}
+use Rattle.message.specs.Limits.{mostBlocks}
 use Rattle.message.specs.Causes.{firstFailure, judgedBy}
 use Rattle.message.specs.Numbers.{part, put, bytesFor, bytesForEach}
 use Rattle.message.specs.Logs.{Block, Log, isPrefix, inStep, namesOf, countsOf}
@@ -18,6 +19,7 @@ use Rattle.agreement.specs.Proposals.{emptyProposals, withProposal, fileProposa
 use Rattle.agreement.specs.Kept.{keptProposal}
 use Rattle.agreement.specs.Heard.{voteAmong}
 use Rattle.bench.specs.Layout.{logsPlace, leastLent}
+use Rattle.bench.specs.Totals.{totalsFrom, unlike}
 use Rattle.bench.specs.Calls.{acted, State, Step}
 use Rattle.bench.specs.Acts.{propose, vote, makes}
 use Rattle.bench.specs.Record.{agreementOf, proposalsOf, withAgreement, anyPlace, beyondAgreement, beyondProposals, beyond}
@@ -58,6 +60,7 @@ ready beat L = record {
       record {
         names = put (replicate leastLent 1) (placeOf (logsPlace 258) 0) (namesOf L);
         counts = put (replicate leastLent 1) (placeOf (logsPlace 258) 0) (countsOf L);
+        totals = replicate mostBlocks 0;
       };
 }
 
@@ -111,7 +114,8 @@ rows =
 
 pub bytes-hold : map (λ (r : Row). r .step .answer .out) rows ≡ map (λ (r : Row). r .out) rows
 unfolding
-    judgedBy firstFailure beginOf keptAgreement keptProposals actOf actedOf changed snappedBy settled usedOf agreementOf proposalsOf
+    judgedBy firstFailure unlike totalsFrom beginOf keptAgreement keptProposals actOf actedOf changed snappedBy settled usedOf
+    agreementOf proposalsOf
     withAgreement
     anyPlace beyondAgreement beyondProposals beyond propose vote makes voteAmong keptProposal bestOf gradeAmong overlong maySupport supports
     hasGrade under
@@ -147,7 +151,8 @@ limits =
 
 pub limits-hold : map (λ (r : Limit). r .step .answer .reply) limits ≡ map (λ (r : Limit). acted (r .made)) limits
 unfolding
-    judgedBy firstFailure actOf actedOf changed settled usedOf agreementOf proposalsOf anyPlace beyondAgreement beyondProposals beyond
+    judgedBy firstFailure unlike totalsFrom actOf actedOf changed settled usedOf agreementOf proposalsOf anyPlace beyondAgreement
+    beyondProposals beyond
     propose vote makes
     voteAmong keptProposal bestOf gradeAmong overlong maySupport supports hasGrade under prefixes candidates longer longestOf longest weigh
     member adding removing logAt part put
@@ -158,7 +163,8 @@ limits-hold = refl
 pub longest-out : offers (ready 1036 (many 63)) .answer .out
     ≡ bytesOf (proposalMessage (record { sender = 3; view = 259; log = many 63 ++ (block 517 259 ∷ []) }) 2057) ++ (7 ∷ [])
 unfolding
-    judgedBy firstFailure actOf actedOf changed settled usedOf agreementOf proposalsOf anyPlace beyondAgreement beyondProposals beyond
+    judgedBy firstFailure unlike totalsFrom actOf actedOf changed settled usedOf agreementOf proposalsOf anyPlace beyondAgreement
+    beyondProposals beyond
     propose makes gradeAmong overlong
     maySupport supports hasGrade under prefixes candidates longer longestOf longest weigh member adding removing logAt messageBytes bytesOf
     part put bytesFor bytesForEach isPrefix
@@ -167,7 +173,8 @@ longest-out = refl
 
 pub longest-filed : offers (ready 1036 (many 63)) .held .bench .proposals ≡ withProposal (emptyProposals 259) 3 64 2057
 unfolding
-    judgedBy firstFailure actOf actedOf changed settled usedOf agreementOf proposalsOf anyPlace beyondAgreement beyondProposals beyond
+    judgedBy firstFailure unlike totalsFrom actOf actedOf changed settled usedOf agreementOf proposalsOf anyPlace beyondAgreement
+    beyondProposals beyond
     propose makes gradeAmong overlong
     maySupport supports hasGrade under prefixes candidates longer longestOf longest weigh member adding removing logAt fileMessage
     fileProposalOf messageBytes bytesOf part put

@@ -6,7 +6,7 @@ use mathlib.Core.Option.{some}
 use mathlib.Core.Path.{_≡_, refl}
 use Rattle.message.proofs.CauseLaws.{listed, fails-by, unlisted}
 use Rattle.bench.specs.Terms.{Seat}
-use Rattle.bench.specs.Calls.{Call, begin, receive, act}
+use Rattle.bench.specs.Calls.{Call, begin, receive, act, find}
 use Rattle.bench.specs.History.{History, causes, refusal}
 
 abbrev NotEightNine : ℕ → Type 0
@@ -16,6 +16,7 @@ no-row : (S : Seat) (p : History) (c : Call) → (listed 8 (causes S p c) ≡ fa
 no-row S p (begin b) = (refl, refl)
 no-row S p (receive bytes) = (refl, refl)
 no-row S p (act block priority out) = (refl, refl)
+no-row S p (find e) = (refl, refl)
 
 pub no-eight-or-nine : (S : Seat) (p : History) (c : Call) (k : ℕ) → refusal S p c ≡ some k → NotEightNine k
 unfolding refusal

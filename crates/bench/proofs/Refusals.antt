@@ -3,25 +3,27 @@
 use Prim.Native.Nat.{ℕ}
 use native.Mathlib.Omega.{arith}
 use mathlib.Core.Bool.{Bool, true, false, not}
+use mathlib.Core.Logic.{_⊎_, inl, inr}
 use mathlib.Core.List.{List, [], _∷_, _++_}
 use mathlib.Core.Option.{some, none}
-use mathlib.Core.Path.{_≡_, refl, ap, _∙_}
+use mathlib.Core.Path.{_≡_, refl, sym, ap, _∙_}
 use Rattle.message.specs.Choice.{pick}
 use Rattle.message.specs.Causes.{Cause, by, firstFailure, judgedBy}
 use Rattle.message.specs.Logs.{Block}
 use Rattle.message.specs.Message.{Meaning, meaningIn, readCauses, refused as unread, means, readOf}
-use Rattle.message.proofs.CauseLaws.{no-failure, failure-append, listed, row-given, row-only, judged, judged-refused, judged-done}
-use Rattle.message.proofs.CauseLaws.{judged-past}
+use Rattle.message.proofs.CauseLaws.{no-failure, failure-append, fails-by, listed, unlisted, row-given, row-only, judged}
+use Rattle.message.proofs.CauseLaws.{judged-refused, judged-done, judged-past}
 use Rattle.message.proofs.Acceptance.{read-cause, accepted as read-accepted}
 use Rattle.bench.specs.Terms.{Terms, seatOf}
 use Rattle.bench.specs.Layout.{Lent, shortLists}
-use Rattle.bench.specs.Calls.{Reply, refused, done, Opening, Step, State, coreOf, openTo}
+use Rattle.bench.specs.Calls.{Reply, refused, done, Opening, Step, State, coreOf, openTo, foundIn}
 use Rattle.bench.specs.Causes.{openCauses, messageCauses}
 use Rattle.bench.specs.History.{openRefusal}
 use Rattle.bench.specs.Record.{freshBench, beatOf, idle, beyond}
-use Rattle.bench.specs.ByRecord.{refuse, stepBy, recordCauses, notOpened, openOf, begun, beginRows, beginOf, fileMessage, taken}
-use Rattle.bench.specs.ByRecord.{receiveRows, receiveOf, actedOf, actedNow, actRows, actOf}
-use Rattle.bench.specs.Tested.{Usable}
+use Rattle.bench.specs.ByRecord.{refuse, stepBy, wrongTotals, recordCauses, notOpened, openOf, begun, beginRows, beginOf, fileMessage}
+use Rattle.bench.specs.ByRecord.{taken, receiveRows, receiveOf, actedOf, actedNow, actStep, actRows, actOf, findRows, foundStep}
+use Rattle.bench.specs.ByRecord.{findOf, decidedLog}
+use Rattle.bench.specs.Tested.{Served}
 
 -- ---- Open
 
@@ -90,7 +92,7 @@ pub refusal-leaves : {cs : List Cause} {s : State} {out : List ℕ} {t r : Step}
     → (r .held ≡ s) × (r .answer .out ≡ out)
 refusal-leaves j k q = let e = j .refuses k (j .cause k q) in (ap (λ (x : Step). x .held) e, ap (λ (x : Step). x .answer .out) e)
 
--- ---- the three calls
+-- ---- the calls on a record
 
 pub begin-judged : (s : State) (beat : ℕ) → Judged (beginRows s beat) s [] (begun s beat) (beginOf s beat)
 unfolding beginOf
@@ -99,48 +101,66 @@ begin-judged s beat =
     (λ k e. let z : _≡_ {A = ℕ} 0 1 = cc in omega arith)
 
 pub receive-judged : (s : State) (bytes : List ℕ)
-    → Judged (receiveRows s bytes) s [] (stepBy s (taken (fileMessage (coreOf s) bytes (meaningIn bytes)))) (receiveOf s bytes)
+    → Judged (receiveRows s bytes) s [] (stepBy (s .lent .totals) (taken (fileMessage (coreOf s) bytes (meaningIn bytes))))
+    (receiveOf s bytes)
 unfolding receiveOf
 receive-judged s bytes =
-    by-causes (receiveRows s bytes) s [] (stepBy s (taken (fileMessage (coreOf s) bytes (meaningIn bytes))))
+    by-causes (receiveRows s bytes) s [] (stepBy (s .lent .totals) (taken (fileMessage (coreOf s) bytes (meaningIn bytes))))
     (λ k e. let z : _≡_ {A = ℕ} 0 1 = cc in omega arith)
 
 pub act-judged : (s : State) (block : Block) (priority : ℕ) (out : List ℕ)
-    → Judged (actRows s out) s out (stepBy s (actedNow (coreOf s) block priority out)) (actOf s block priority out)
+    → Judged (actRows s out) s out (actStep s (actedNow (coreOf s) block priority out)) (actOf s block priority out)
 unfolding actOf actedOf
 act-judged s block priority out =
-    by-causes (actRows s out) s out (stepBy s (actedNow (coreOf s) block priority out))
+    by-causes (actRows s out) s out (actStep s (actedNow (coreOf s) block priority out))
     (λ k e. let z : _≡_ {A = ℕ} 0 1 = cc in omega arith)
 
--- ---- 9 and 8, which come first in each: given exactly if so, where no later row has the number
+pub find-judged : (s : State) (e : ℕ) → Judged (findRows s e) s [] (foundStep s e) (findOf s e)
+unfolding findOf
+find-judged s e = by-causes (findRows s e) s [] (foundStep s e) (λ k q. let z : _≡_ {A = ℕ} 0 1 = cc in omega arith)
+
+-- ---- 9, 8 and 9 by the totals, which come first in each: given exactly if so, where no later row has the number
 
 module _ {cs : List Cause} {s : State} {out : List ℕ} {t r : Step} (j : Judged (recordCauses s ++ cs) s out t r) where
   pub by-9 : beyond (s .bench) ≡ true → r ≡ refuse s out 9
-  by-9 e = j .refuses 9 (row-given (by 8 (shortLists (s .lent)) ∷ cs) 9 (beyond (s .bench)) [] tt e)
+  by-9 e = j .refuses 9 (row-given (by 8 (shortLists (s .lent)) ∷ by 9 (wrongTotals s) ∷ cs) 9 (beyond (s .bench)) [] tt e)
 
   pub by-8 : beyond (s .bench) ≡ false → shortLists (s .lent) ≡ true → r ≡ refuse s out 8
-  by-8 e f = j .refuses 8 (row-given cs 8 (shortLists (s .lent)) (by 9 (beyond (s .bench)) ∷ []) (e, tt) f)
+  by-8 e f = j .refuses 8 (row-given (by 9 (wrongTotals s) ∷ cs) 8 (shortLists (s .lent)) (by 9 (beyond (s .bench)) ∷ []) (e, tt) f)
 
-  pub only-9 : listed 9 cs ≡ false → r .answer .reply ≡ refused 9 → beyond (s .bench) ≡ true
-  only-9 n q = row-only (by 8 (shortLists (s .lent)) ∷ cs) 9 (beyond (s .bench)) [] refl n (j .cause 9 q) .1
+  pub by-totals : beyond (s .bench) ≡ false → shortLists (s .lent) ≡ false → wrongTotals s ≡ true → r ≡ refuse s out 9
+  by-totals e f g =
+      j .refuses 9 (row-given cs 9 (wrongTotals s) (by 9 (beyond (s .bench)) ∷ by 8 (shortLists (s .lent)) ∷ []) (e, (f, tt)) g)
+
+  pub only-9 : listed 9 cs ≡ false → r .answer .reply ≡ refused 9
+      → (beyond (s .bench) ≡ true) ⊎ ((beyond (s .bench) ≡ false) × (shortLists (s .lent) ≡ false) × (wrongTotals s ≡ true))
+  only-9 n q = elim (fails-by (recordCauses s ++ cs) 9 (j .cause 9 q)) [
+    | inl x ↦ inl (x .0)
+    | inr x ↦ elim (x .1) [
+      | inl y ↦ (let z : _≡_ {A = ℕ} 8 9 = y .1 in absurd (omega arith))
+      | inr y ↦ elim (y .1) [ inl z ↦ inr (x .0, y .0, z .0) | inr z ↦ absurd (unlisted cs 9 n (z .1)) ]
+    ]
+  ]
 
   pub only-8 : listed 8 cs ≡ false → r .answer .reply ≡ refused 8 → (beyond (s .bench) ≡ false) × (shortLists (s .lent) ≡ true)
-  only-8 n q = let x = row-only cs 8 (shortLists (s .lent)) (by 9 (beyond (s .bench)) ∷ []) refl n (j .cause 8 q) in (x .0 .0, x .1)
+  only-8 n q =
+      let x = row-only (by 9 (wrongTotals s) ∷ cs) 8 (shortLists (s .lent)) (by 9 (beyond (s .bench)) ∷ []) refl n (j .cause 8 q) in
+      (x .0 .0, x .1)
 
--- where neither is given, the causes of its own judge it
-pub usable-past : {A : Type 0} (refuse : ℕ → A) (x : A) (s : State) (cs : List Cause) → Usable (coreOf s)
+-- where none is given, the causes of its own judge it
+pub served-past : {A : Type 0} (refuse : ℕ → A) (x : A) (s : State) (cs : List Cause) → Served s
     → judgedBy (recordCauses s ++ cs) refuse x ≡ judgedBy cs refuse x
-usable-past refuse x s cs u = judged-past refuse x (recordCauses s) cs (u .limits, (u .lists, tt))
+served-past refuse x s cs u = judged-past refuse x (recordCauses s) cs (u .limits, (u .lists, (u .totals, tt)))
 
 -- Receive, in a gathering: the message's
-pub receive-on : (s : State) (bytes : List ℕ) → Usable (coreOf s) → idle (s .bench) ≡ false
+pub receive-on : (s : State) (bytes : List ℕ) → Served s → idle (s .bench) ≡ false
     → receiveOf s bytes ≡ judgedBy (messageCauses (s .bench .n) (beatOf (s .bench)) bytes) (refuse s [])
-    (stepBy s (taken (fileMessage (coreOf s) bytes (meaningIn bytes))))
+    (stepBy (s .lent .totals) (taken (fileMessage (coreOf s) bytes (meaningIn bytes))))
 unfolding receiveOf
 receive-on s bytes u g =
-    judged-past (refuse s []) (stepBy s (taken (fileMessage (coreOf s) bytes (meaningIn bytes))))
+    judged-past (refuse s []) (stepBy (s .lent .totals) (taken (fileMessage (coreOf s) bytes (meaningIn bytes))))
     (recordCauses s ++ (by 22 (idle (s .bench)) ∷ [])) (messageCauses (s .bench .n) (beatOf (s .bench)) bytes)
-    (u .limits, (u .lists, (g, tt)))
+    (u .limits, (u .lists, (u .totals, (g, tt))))
 
 -- and once it is read: refused as it was read, or by its window alone
 module _ (n beat : ℕ) (bytes : List ℕ) where
@@ -165,3 +185,29 @@ begin-lent s beat =
     judged (refuse s []) (begun s beat) (λ (r : Step). r .held .lent ≡ s .lent) (beginRows s beat)
     (λ k e. refl)
     (λ e. refl)
+
+-- Receive does not write the totals, whatever the record.
+pub receive-totals : (s : State) (bytes : List ℕ) → receiveOf s bytes .held .lent .totals ≡ s .lent .totals
+unfolding receiveOf
+receive-totals s bytes =
+    judged (refuse s []) (stepBy (s .lent .totals) (taken (fileMessage (coreOf s) bytes (meaningIn bytes))))
+    (λ (r : Step). r .held .lent .totals ≡ s .lent .totals) (receiveRows s bytes)
+    (λ k e. refl)
+    (λ e. refl)
+
+-- Find writes nothing, whatever the record.
+pub find-held : (s : State) (e : ℕ) → findOf s e .held ≡ s
+unfolding findOf
+find-held s e =
+    judged (refuse s []) (foundStep s e) (λ (r : Step). r .held ≡ s) (findRows s e)
+    (λ k q. refl)
+    (λ q. refl)
+
+-- what Find answers, by its rows alone
+pub find-reply : (s : State) (e : ℕ) → findOf s e .answer .reply ≡ judgedBy (findRows s e) refused (foundIn (decidedLog (coreOf s)) e)
+unfolding findOf
+find-reply s e =
+    let there = foundIn (decidedLog (coreOf s)) e in
+    judged (refuse s []) (foundStep s e) (λ (r : Step). r .answer .reply ≡ judgedBy (findRows s e) refused there) (findRows s e)
+    (λ k q. sym (judged-refused refused there (findRows s e) k q))
+    (λ q. sym (judged-done refused there (findRows s e) q))

@@ -7,14 +7,16 @@ use lib.ListN.{length}
 use Rattle.message.specs.Message.{logMessage, proposalMessage, priorityIn}
 use Rattle.message.proofs.Acceptance.{length-blocks}
 use Rattle.agreement.specs.Filing.{first, second, known}
-use Rattle.bench.specs.Calls.{Reply, refused, done, took, acted}
-use Rattle.bench.specs.Answers.{startReply, takenReply, contentMade, madeReply}
+use Rattle.bench.specs.Calls.{Reply, refused, done, took, acted, found}
+use Rattle.bench.specs.Answers.{startReply, takenReply, contentMade, madeReply, entryReply}
 use Rattle.bench.specs.declared.Start.{Start}
 use Rattle.bench.specs.declared.Start.the-variants as starts
 use Rattle.bench.specs.declared.Taken.{Taken}
 use Rattle.bench.specs.declared.Taken.the-variants as takings
 use Rattle.bench.specs.declared.Made.{Made}
 use Rattle.bench.specs.declared.Made.the-variants as makings
+use Rattle.bench.specs.declared.Entry.{Entry}
+use Rattle.bench.specs.declared.Entry.the-variants as entries
 
 -- ---- Open and Begin
 
@@ -33,6 +35,7 @@ startBack (refused k) = starts.Refused k
 startBack done = starts.Done
 startBack (took w) = starts.Done
 startBack (acted m) = starts.Done
+startBack (found block inside) = starts.Done
 
 start-back : (a : Start) → startBack (startReply a) ≡ a
 unfolding startReply
@@ -67,6 +70,7 @@ takenBack (took first) = takings.First
 takenBack (took second) = takings.Second
 takenBack (took known) = takings.Known
 takenBack (acted m) = takings.Known
+takenBack (found block inside) = takings.Known
 
 taken-back : (a : Taken) → takenBack (takenReply a) ≡ a
 unfolding takenReply
@@ -104,6 +108,7 @@ madeBack (took w) = makings.Nothing
 madeBack (acted none) = makings.Nothing
 madeBack (acted (some (logMessage m))) = makings.Log (length (m .log))
 madeBack (acted (some (proposalMessage m priority))) = makings.Proposal (length (m .log))
+madeBack (found block inside) = makings.Nothing
 
 made-back : (out : List ℕ) (a : Made) → madeBack (madeReply out a) ≡ a
 unfolding madeReply
@@ -114,3 +119,28 @@ made-back out (makings.Refused k) = refl
 
 pub madeReply-injective : (out : List ℕ) (a b : Made) → madeReply out a ≡ madeReply out b → a ≡ b
 madeReply-injective out a b e = sym (made-back out a) ∙ ap madeBack e ∙ made-back out b
+
+-- ---- Find
+
+pub entry-at : (block inside : ℕ) → entryReply (entries.At block inside) ≡ found block inside
+unfolding entryReply
+entry-at block inside = refl
+
+pub entry-refused : (k : ℕ) → entryReply (entries.Refused k) ≡ refused k
+unfolding entryReply
+entry-refused k = refl
+
+abbrev entryBack : Reply → Entry
+entryBack (refused k) = entries.Refused k
+entryBack done = entries.Refused 0
+entryBack (took w) = entries.Refused 0
+entryBack (acted m) = entries.Refused 0
+entryBack (found block inside) = entries.At block inside
+
+entry-back : (a : Entry) → entryBack (entryReply a) ≡ a
+unfolding entryReply
+entry-back (entries.At block inside) = refl
+entry-back (entries.Refused k) = refl
+
+pub entryReply-injective : (a b : Entry) → entryReply a ≡ entryReply b → a ≡ b
+entryReply-injective a b e = sym (entry-back a) ∙ ap entryBack e ∙ entry-back b

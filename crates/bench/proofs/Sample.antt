@@ -6,6 +6,7 @@ use mathlib.Core.Option.{Option, some, none}
 use mathlib.Core.Path.{_≡_, refl}
 use lib.ListN.{replicate}
 use Rattle.message.specs.Choice as choice
+use Rattle.message.specs.Limits.{mostBlocks}
 use Rattle.message.specs.Causes.{firstFailure, judgedBy}
 use Rattle.message.specs.Numbers.{part, put, numberAt, numbersAt, bytesFor, bytesForEach}
 use Rattle.message.specs.Logs.{Block, Log, isPrefix, sameLog, inStep, namesOf, countsOf}
@@ -21,6 +22,7 @@ use Rattle.agreement.specs.Proposals.{fileProposalOf, bestOf}
 use Rattle.agreement.specs.Kept.{keptProposal}
 use Rattle.agreement.specs.Heard.{voteAmong}
 use Rattle.bench.specs.Layout.{leastLent, mostBytes}
+use Rattle.bench.specs.Totals.{totalsFrom, unlike}
 use Rattle.bench.specs.Calls.{Reply, done, acted, Step, State, coreOf}
 use Rattle.bench.specs.Acts.{propose, vote, makes}
 use Rattle.bench.specs.Record.{freshBench, agreementOf, proposalsOf, withAgreement, anyPlace, beyondAgreement, beyondProposals}
@@ -80,7 +82,10 @@ rollFrom s out (o ∷ os) =
 
 -- bench 0 of 1, as Open gives it
 abbrev pub alone : State
-alone = record { bench = freshBench 1 0; lent = record { names = replicate leastLent 0; counts = replicate leastLent 0 } }
+alone = record {
+  bench = freshBench 1 0;
+  lent = record { names = replicate leastLent 0; counts = replicate leastLent 0; totals = replicate mostBlocks 0 };
+}
 
 abbrev pub roll : List Event → List Line
 roll events = rollFrom alone (replicate mostBytes 0) events
@@ -228,7 +233,8 @@ pub rolls-hold : map roll (sample ∷ twoViews ∷ asleep ∷ late ∷ parting �
     ≡ sampleLines ∷ twoViewsLines ∷ asleepLines ∷ lateLines ∷ partingLines ∷ keepingLines ∷ countPartingLines ∷ forgedLines ∷ endingLines ∷
     []
 unfolding
-    rollFrom beginOf receiveOf judgedBy firstFailure malformed meaningIn choice.anyOf actOf actedOf changed snappedBy settled usedOf
+    rollFrom beginOf receiveOf unlike totalsFrom judgedBy firstFailure malformed meaningIn choice.anyOf actOf actedOf changed snappedBy
+    settled usedOf
     fileMessage keptAgreement keptProposals agreementOf
     proposalsOf withAgreement anyPlace beyondAgreement beyondProposals beyond propose vote makes voteAmong keptProposal fileProposalOf
     bestOf gradeAmong

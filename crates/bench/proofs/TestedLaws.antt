@@ -1,10 +1,10 @@
--- What the tests of a call leave where none of them refuses, as facts: of the record, of the two lists and of the outgoing buffer. Assumes
+-- What the tests of a call leave where none of them refuses, as facts: of the record, of the lists and of the outgoing buffer. Assumes
 -- nothing.
 use Prim.Native.Nat.{ℕ, _+_, _≤_}
 use native.Mathlib.Omega.{arith}
-use mathlib.Core.Bool.{Bool, true, false}
+use mathlib.Core.Bool.{true, false}
 use mathlib.Core.List.{List}
-use mathlib.Core.Path.{_≡_, sym, _∙_}
+use mathlib.Core.Path.{_≡_}
 use borrow.Author.Tests.{ltb-false}
 use lib.Dec.{ltb}
 use lib.ListN.{length}
@@ -12,7 +12,7 @@ use Rattle.message.specs.Limits.{mostBlocks}
 use Rattle.message.specs.Store.{within}
 use Rattle.message.proofs.TestLaws.{or-false}
 use Rattle.message.proofs.ListedLaws.{Within, of-within}
-use Rattle.bench.specs.Layout.{decidedPlace, leastLent, mostBytes, tooFewPlaces, outOfRange}
+use Rattle.bench.specs.Layout.{decidedPlace, leastLent, mostBytes, Lent, tooFewPlaces, tooFewTotals, shortLists, outOfRange}
 use Rattle.bench.specs.Calendar.{lastBeat}
 use Rattle.bench.specs.Calls.{Core}
 use Rattle.bench.specs.Record.{withGatheringOver, beyondAgreement, beyondProposals, beyond, Bench}
@@ -52,11 +52,15 @@ module _ (names counts : List ℕ) (e : tooFewPlaces names counts ≡ false) whe
   pub decided-within : (k : ℕ) → k ≤ mostBlocks → within names counts decidedPlace k ≡ true
   decided-within k h = lies-within decidedPlace k h (omega arith)
 
--- ---- all that was tested, as the code finds it
+-- of all three lists, those of the blocks, and the totals
+pub long-blocks : (l : Lent) → shortLists l ≡ false → tooFewPlaces (l .names) (l .counts) ≡ false
+long-blocks l e = or-false (tooFewPlaces (l .names) (l .counts)) (tooFewTotals (l .totals)) e .0
 
-pub is-usable : (b : Bench) (names counts : List ℕ) (r q : Bool) → r ≡ beyond b → r ≡ false → q ≡ tooFewPlaces names counts → q ≡ false
-    → Usable (coreWith b names counts)
-is-usable b names counts r q e t f u = record { limits = sym e ∙ t; lists = sym f ∙ u }
+pub long-totals : (l : Lent) → shortLists l ≡ false → mostBlocks ≤ length (l .totals)
+long-totals l e =
+    ltb-false (length (l .totals)) mostBlocks (or-false (tooFewPlaces (l .names) (l .counts)) (tooFewTotals (l .totals)) e .1)
+
+-- ---- all that was tested, as the code finds it
 
 pub long-out : {s : Core} {out : List ℕ} → Tested s out → mostBytes ≤ length out
 long-out {s} {out} t = ltb-false (length out) mostBytes (t .room)

@@ -5,14 +5,16 @@ use mathlib.Core.List.{List, [], _∷_, map}
 use mathlib.Core.Path.{_≡_, refl}
 use Rattle.message.specs.Choice.{anyOf}
 use Rattle.message.specs.Causes.{firstFailure, judgedBy}
-use Rattle.message.specs.Numbers.{numberAt, numbersAt, bytesFor, bytesForEach}
+use Rattle.message.specs.Numbers.{part, numberAt, numbersAt, bytesFor, bytesForEach}
 use Rattle.message.specs.Logs.{Log, inStep, namesOf, countsOf}
 use Rattle.message.specs.Message.{Meaning, logMessage, proposalMessage, messageBytes, bytesOf, malformed, meaningIn}
+use Rattle.message.specs.Store.{logAt}
 use Rattle.agreement.specs.Sets.{weigh, member, adding, removing}
 use Rattle.agreement.specs.Filing.{first, fileOf}
 use Rattle.agreement.specs.Proposals.{fileProposalOf}
 use Rattle.bench.specs.Layout.{proposalsPlace, decidedPlace, leastLent, mostBytes}
 use Rattle.bench.specs.Calendar.{lastBeat}
+use Rattle.bench.specs.Totals.{totalsFrom, unlike}
 use Rattle.bench.specs.Calls.{Reply, refused, took}
 use Rattle.bench.specs.Record.{anyPlace, beyondAgreement, beyondProposals, beyond, agreementOf, proposalsOf}
 use Rattle.bench.specs.ByRecord.{receiveOf, fileMessage}
@@ -91,7 +93,8 @@ rows =
 pub rows-hold : map (λ (r : Row). receiveOf (held (gathering (r .beat + 1)) leastLent leastLent) (bytesOf (r .message)) .answer .reply) rows
     ≡ map (λ (r : Row). r .reply) rows
 unfolding
-    receiveOf fileMessage fileOf fileProposalOf agreementOf proposalsOf judgedBy firstFailure malformed meaningIn anyOf numberAt numbersAt
+    receiveOf unlike totalsFrom logAt part fileMessage fileOf fileProposalOf agreementOf proposalsOf judgedBy firstFailure malformed
+    meaningIn anyOf numberAt numbersAt
     inStep bytesOf messageBytes
     bytesFor bytesForEach namesOf countsOf beyond beyondAgreement beyondProposals anyPlace weigh member adding removing
 rows-hold = refl

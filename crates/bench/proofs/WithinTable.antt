@@ -6,6 +6,7 @@ use mathlib.Core.Option.{Option, some, none}
 use mathlib.Core.Path.{_≡_, refl}
 use lib.ListN.{replicate, set}
 use Rattle.message.specs.Choice as choice
+use Rattle.message.specs.Limits.{mostBlocks}
 use Rattle.message.specs.Causes.{firstFailure, judgedBy}
 use Rattle.message.specs.Numbers.{part, put, numberAt, numbersAt, bytesFor, bytesForEach}
 use Rattle.message.specs.Logs.{Block, Log, isPrefix, sameLog, inStep, namesOf, countsOf}
@@ -20,6 +21,7 @@ use Rattle.agreement.specs.Proposals.{emptyProposals, withProposal, fileProposa
 use Rattle.agreement.specs.Kept.{keptProposal}
 use Rattle.agreement.specs.Heard.{voteAmong}
 use Rattle.bench.specs.Layout.{leastLent}
+use Rattle.bench.specs.Totals.{totalsFrom, unlike}
 use Rattle.bench.specs.Calls.{Reply, done, took, acted, State, Step}
 use Rattle.bench.specs.Acts.{propose, vote, makes}
 use Rattle.bench.specs.Record.{agreementOf, proposalsOf, withAgreement, withGatheringOver, withDecided, anyPlace, beyondAgreement}
@@ -55,7 +57,10 @@ state b = held b leastLent leastLent
 
 -- lists that hold the name zero everywhere
 abbrev nameless : Bench → State
-nameless b = record { bench = b; lent = record { names = replicate leastLent 0; counts = replicate leastLent 1 } }
+nameless b = record {
+  bench = b;
+  lent = record { names = replicate leastLent 0; counts = replicate leastLent 1; totals = replicate mostBlocks 0 };
+}
 
 -- after an Act
 abbrev rest : ℕ → Agreement → Agreement → Proposals → Bench
@@ -202,7 +207,8 @@ stated r = (r .reply, r .bench)
 
 pub rows-hold : map found rows ≡ map stated rows
 unfolding
-    beginOf receiveOf judgedBy firstFailure malformed meaningIn choice.anyOf actOf actedOf changed snappedBy settled usedOf fileMessage
+    beginOf receiveOf unlike totalsFrom judgedBy firstFailure malformed meaningIn choice.anyOf actOf actedOf changed snappedBy settled
+    usedOf fileMessage
     keptAgreement keptProposals agreementOf proposalsOf withAgreement anyPlace beyondAgreement beyondProposals beyond propose vote makes
     voteAmong keptProposal
     fileProposalOf bestOf gradeAmong fileOf overlong maySupport supports hasGrade under prefixes candidates longer longestOf longest weigh

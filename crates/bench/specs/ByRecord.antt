@@ -1,7 +1,8 @@
--- The four calls by the record and the lent lists, for every record and every pair of lists: what the code is proved equal to, and what
--- demand 3 is proved of (document 01, "Four calls", "Calendar of acts", "From the input", "From the state"). In each, the first failure is
--- given, and a refusal leaves record, lists and buffer as they were. Assumes nothing.
+-- The five calls by the record and the lent lists, for every record and all lists: what the code is proved equal to, and what demand 3 is
+-- proved of (document 01, "Four calls", "Calendar of acts", "From the input", "From the state"; document 02, request 1). In each, the first
+-- failure is given, and a refusal leaves record, lists and buffer as they were. Assumes nothing.
 use Prim.Native.Nat.{ℕ, zero, suc, _+_}
+use mathlib.Core.Bool.{Bool}
 use mathlib.Core.List.{List, [], _∷_, _++_}
 use mathlib.Core.Option.{Option, some, none}
 use lib.ListN.{length}
@@ -21,8 +22,9 @@ use Rattle.agreement.specs.Kept.{keptProposal}
 use Rattle.agreement.specs.Heard.{voteAmong}
 use Rattle.bench.specs.Layout.{logsPlace, proposalsPlace, decidedPlace, Lent, shortLists}
 use Rattle.bench.specs.Calendar.{logsShut, proposalsShut, viewOf, placeIn, Act, actAt, gradeRead, snapshotTaken}
-use Rattle.bench.specs.Calls.{refused, done, took, acted, State, Core, coreOf, Answer, Opening, Step}
-use Rattle.bench.specs.Causes.{openCauses, beginCauses, receiveCauses, actCauses}
+use Rattle.bench.specs.Totals.{totalsOf, unlike, extended}
+use Rattle.bench.specs.Calls.{refused, done, took, acted, State, Core, coreOf, Answer, Opening, Step, foundIn}
+use Rattle.bench.specs.Causes.{openCauses, beginCauses, receiveCauses, actCauses, findCauses}
 use Rattle.bench.specs.Acts.{Seen, usedFirst, usedOfGrade, isView, makes, decides, Stand, outAfter}
 use Rattle.bench.specs.Record.{freshBench, agreementOf, proposalsOf, beatOf, notAboveLast, idle, withAgreement, withProposals}
 use Rattle.bench.specs.Record.{withGatheringOver, withDecided, withParted, beyond, Bench}
@@ -36,16 +38,33 @@ pub record Effect : Type 0 where
   pub core : Core
   pub answer : Answer
 
--- The call that does it: what is not of the core stays (there is nothing else so far).
-abbrev pub stepBy : State → Effect → Step
-stepBy s e = record {
-  held = record { bench = e .core .bench; lent = record { names = e .core .names; counts = e .core .counts } };
+-- The call that does it, and leaves these totals.
+abbrev pub stepBy : List ℕ → Effect → Step
+stepBy totals e = record {
+  held = record { bench = e .core .bench; lent = record { names = e .core .names; counts = e .core .counts; totals = totals } };
   answer = e .answer;
 }
 
--- 9 and 8 come first in each call on a record.
+-- ---- what stands
+
+-- the decided log as record and lists hold it
+abbrev pub decidedLog : Core → Log
+decidedLog c = logAt (c .names) (c .counts) decidedPlace (c .bench .decided)
+
+-- that log, and the mark
+abbrev pub standOf : Core → Stand
+standOf c = record { log = decidedLog c; parted = isYes (c .bench .parted) }
+
+abbrev pub standing : State → Stand
+standing s = standOf (coreOf s)
+
+-- 9, "tested after 8": a total below the decided length is not the decided log's
+abbrev pub wrongTotals : State → Bool
+wrongTotals s = unlike (totalsOf (decidedLog (coreOf s))) (s .lent .totals)
+
+-- 9, 8 and 9 by the totals come first in each call on a record.
 abbrev pub recordCauses : State → List Cause
-recordCauses s = by 9 (beyond (s .bench)) ∷ by 8 (shortLists (s .lent)) ∷ []
+recordCauses s = by 9 (beyond (s .bench)) ∷ by 8 (shortLists (s .lent)) ∷ by 9 (wrongTotals s) ∷ []
 
 -- ---- Open
 
@@ -83,7 +102,7 @@ begunBench b beat = record {
 abbrev pub begun : State → ℕ → Step
 begun s beat = record { held = record { bench = begunBench (s .bench) beat; lent = s .lent }; answer = record { reply = done; out = [] } }
 
--- 9, 8, 10, 20
+-- 9, 8, 9 by the totals, 10, 20
 abbrev pub beginRows : State → ℕ → List Cause
 beginRows s beat = recordCauses s ++ beginCauses beat (notAboveLast (s .bench) beat)
 
@@ -130,12 +149,14 @@ fileMessage c bytes (proposalMessage m priority) = fileProposal c bytes (m .view
 abbrev pub taken : Outcome → Effect
 taken f = record { core = f .held; answer = record { reply = took (f .word); out = [] } }
 
--- 9, 8, 22, 1 to 6, 21
+-- 9, 8, 9 by the totals, 22, 1 to 6, 21
 abbrev pub receiveRows : State → List ℕ → List Cause
 receiveRows s bytes = recordCauses s ++ receiveCauses (idle (s .bench)) (s .bench .n) (beatOf (s .bench)) bytes
 
+-- the totals are not written
 unfoldable pub receiveOf : State → List ℕ → Step
-receiveOf s bytes = judgedBy (receiveRows s bytes) (refuse s []) (stepBy s (taken (fileMessage (coreOf s) bytes (meaningIn bytes))))
+receiveOf s bytes =
+    judgedBy (receiveRows s bytes) (refuse s []) (stepBy (s .lent .totals) (taken (fileMessage (coreOf s) bytes (meaningIn bytes))))
 
 -- ---- what an act of view v sees
 
@@ -151,17 +172,6 @@ seenOf c v a = record {
 }
 
 -- ---- Act
-
--- the decided log as record and lists hold it
-abbrev pub decidedLog : Core → Log
-decidedLog c = logAt (c .names) (c .counts) decidedPlace (c .bench .decided)
-
--- what stands: that log, and the mark
-abbrev pub standOf : Core → Stand
-standOf c = record { log = decidedLog c; parted = isYes (c .bench .parted) }
-
-abbrev pub standing : State → Stand
-standing s = standOf (coreOf s)
 
 -- A decision does to record and lists what `settle` does to what stands (Settling: decision-settled): it extends the decided log and
 -- replaces it, is a prefix of it and changes nothing, or sets the mark.
@@ -212,9 +222,27 @@ over c = record { bench = withGatheringOver (c .bench); names = c .names; counts
 abbrev pub actedNow : Core → Block → ℕ → List ℕ → Effect
 actedNow c block priority out = actedOf (over c) block priority out (viewOf (beatOf (c .bench))) (actAt (placeIn (beatOf (c .bench))))
 
--- 9, 8, 11, 22
+-- The totals past the old decided length are written, as many as what then stands has: none, where no decision extends it (TotalLaws:
+-- totals-kept).
+abbrev pub actStep : State → Effect → Step
+actStep s e = stepBy (extended (s .lent .totals) (s .bench .decided) (decidedLog (e .core))) e
+
+-- 9, 8, 9 by the totals, 11, 22
 abbrev pub actRows : State → List ℕ → List Cause
 actRows s out = recordCauses s ++ actCauses out (idle (s .bench))
 
 unfoldable pub actOf : State → Block → ℕ → List ℕ → Step
-actOf s block priority out = judgedBy (actRows s out) (refuse s out) (stepBy s (actedNow (coreOf s) block priority out))
+actOf s block priority out = judgedBy (actRows s out) (refuse s out) (actStep s (actedNow (coreOf s) block priority out))
+
+-- ---- Find
+
+-- 9, 8, 9 by the totals, 23
+abbrev pub findRows : State → ℕ → List Cause
+findRows s e = recordCauses s ++ findCauses (decidedLog (coreOf s)) e
+
+-- record and lists are not written
+abbrev pub foundStep : State → ℕ → Step
+foundStep s e = record { held = s; answer = record { reply = foundIn (decidedLog (coreOf s)) e; out = [] } }
+
+unfoldable pub findOf : State → ℕ → Step
+findOf s e = judgedBy (findRows s e) (refuse s []) (foundStep s e)

@@ -17,8 +17,8 @@ use Rattle.agreement.specs.Heard.{heardLogs, votersOf, gradeNow, gradeWith, Pro
 use Rattle.bench.specs.Terms.{Seat, weightOf, readIn}
 use Rattle.bench.specs.Layout.{Lent}
 use Rattle.bench.specs.Calendar.{snapshotBeat, viewOf, placeIn, Act, actAt, gradeRead}
-use Rattle.bench.specs.Calls.{Call, begin, receive, act, bufferIn, Reply, refused, done, took, acted, Answer}
-use Rattle.bench.specs.Causes.{openCauses, beginCauses, receiveCauses, actCauses}
+use Rattle.bench.specs.Calls.{Call, begin, receive, act, find, bufferIn, Reply, refused, done, took, acted, Answer, foundIn}
+use Rattle.bench.specs.Causes.{openCauses, beginCauses, receiveCauses, actCauses, findCauses}
 use Rattle.bench.specs.Acts.{Seen, usedFirst, usedOfGrade, makes, outAfter, decides, Stand, settle}
 
 -- ---- the history
@@ -56,6 +56,14 @@ orZero (some b) = b
 abbrev pub beatNow : History → ℕ
 beatNow p = orZero (p .last)
 
+-- what the decisions come to
+unfoldable pub standIn : Stand → List ActRecord → Stand
+standIn st [] = st
+standIn st (d ∷ ds) = settle (standIn st ds) (d .decided)
+
+abbrev pub standNow : Seat → History → Stand
+standNow S p = standIn (S .stood) (p .actions)
+
 -- ---- refusals: 9 never arises here, and 8 at Open only
 
 -- Open: 7, 8
@@ -66,11 +74,12 @@ abbrev pub notAbove : ℕ → Option ℕ → Bool
 notAbove b none = false
 notAbove b (some last) = leb b last
 
--- Begin: 10, 20. Receive: 22, 1 to 6, 21. Act: 11, 22.
+-- Begin: 10, 20. Receive: 22, 1 to 6, 21. Act: 11, 22. Find: 23.
 abbrev pub causes : Seat → History → Call → List Cause
 causes S p (begin b) = beginCauses b (notAbove b (p .last))
 causes S p (receive bytes) = receiveCauses (not (p .gathering)) (S .terms .n) (beatNow p) bytes
 causes S p (act block priority out) = actCauses out (not (p .gathering))
+causes S p (find e) = findCauses (standNow S p .log) e
 
 unfoldable pub refusal : Seat → History → Call → Option ℕ
 refusal S p c = firstFailure (causes S p c)
@@ -162,6 +171,7 @@ accepted S p (begin b) =
 accepted S p (receive bytes) = fileRead p (readIn (S .terms) bytes)
 accepted S p (act block priority out) =
     fileMade (closed p (madeBy S p block priority) (decidedBy S p)) (madeBy S p block priority)
+accepted S p (find e) = p
 
 -- and what it answers
 abbrev pub wordRead : History → Parsed → Reply
@@ -173,6 +183,7 @@ acceptedAnswer S p (begin b) = record { reply = done; out = [] }
 acceptedAnswer S p (receive bytes) = record { reply = wordRead p (readIn (S .terms) bytes); out = [] }
 acceptedAnswer S p (act block priority out) =
     record { reply = acted (madeBy S p block priority); out = outAfter (madeBy S p block priority) out }
+acceptedAnswer S p (find e) = record { reply = foundIn (standNow S p .log) e; out = [] }
 
 -- A refusal changes nothing, and answers its number alone.
 abbrev pub orAccepted : Option ℕ → History → History → History
@@ -213,10 +224,6 @@ actedAt (d ∷ ds) b = eqb (d .beat) b || actedAt ds b
 unfoldable pub awake : Seat → List Call → ℕ → Bool
 awake S cs b = actedAt (after S cs .actions) b
 
--- what the decisions come to
-unfoldable pub standIn : Stand → List ActRecord → Stand
-standIn st [] = st
-standIn st (d ∷ ds) = settle (standIn st ds) (d .decided)
-
+-- what stands after the list
 unfoldable pub stand : Seat → List Call → Stand
-stand S cs = standIn (S .stood) (after S cs .actions)
+stand S cs = standNow S (after S cs)

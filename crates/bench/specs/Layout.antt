@@ -1,4 +1,4 @@
--- Where logs stand in the two lent lists (document 01, "Four calls"), and the tests of what is handed to Open. Assumes nothing.
+-- Where logs stand in the lent lists (document 01, "Four calls"), and the tests of what is handed to Open. Assumes nothing.
 use Prim.Native.Nat.{ℕ, _+_, _*_, _%_}
 use mathlib.Core.Bool.{Bool, _||_}
 use mathlib.Core.List.{List}
@@ -29,18 +29,23 @@ leastLent = decidedPlace + mostBlocks
 abbrev pub mostBytes : ℕ
 mostBytes = headLength + blockWidth * mostBlocks
 
--- the two lent lists: block names and entry counts
+-- the three lent lists: block names, entry counts, and the running totals of the decided log's counts
 pub record Lent : Type 0 where
   pub names : List ℕ
   pub counts : List ℕ
+  pub totals : List ℕ
 
 -- the names or the counts are too short
 abbrev pub tooFewPlaces : List ℕ → List ℕ → Bool
 tooFewPlaces names counts = ltb (length names) leastLent || ltb (length counts) leastLent
 
+-- the totals are: "at least 64"
+abbrev pub tooFewTotals : List ℕ → Bool
+tooFewTotals totals = ltb (length totals) mostBlocks
+
 -- 8: a lent list is
 abbrev pub shortLists : Lent → Bool
-shortLists l = tooFewPlaces (l .names) (l .counts)
+shortLists l = tooFewPlaces (l .names) (l .counts) || tooFewTotals (l .totals)
 
 -- 7 and 9: n is not 1 to 32, or the own number not below n
 abbrev pub outOfRange : ℕ → ℕ → Bool

@@ -1,6 +1,8 @@
 -- What a reader of this crate must believe. Each definition names its place in document 01.
--- Where logs stand, the terms of a volume, the calendar, the calls, their refusals, and what an act makes and decides:
+-- Where logs stand, the totals of their entries, the terms of a volume, the calendar, the calls, their refusals, and what an act makes and
+-- decides:
 pub mod Layout
+pub mod Totals
 pub mod Calendar
 pub mod Calls
 pub mod Causes

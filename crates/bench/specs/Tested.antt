@@ -6,11 +6,18 @@ use mathlib.Core.Path.{_≡_}
 use lib.Dec.{ltb}
 use lib.ListN.{length}
 use Rattle.message.specs.Limits.{mostBlocks}
-use Rattle.bench.specs.Layout.{decidedPlace, mostBytes, tooFewPlaces}
-use Rattle.bench.specs.Calls.{Core}
+use Rattle.bench.specs.Layout.{decidedPlace, mostBytes, tooFewPlaces, shortLists}
+use Rattle.bench.specs.Calls.{Core, State}
 use Rattle.bench.specs.Record.{beyond}
+use Rattle.bench.specs.ByRecord.{wrongTotals}
 
--- neither 9 nor 8 is to be given
+-- neither 9 nor 8 is to be given, 9 by the totals included
+pub record Served (s : State) : Type 0 where
+  pub limits : beyond (s .bench) ≡ false
+  pub lists : shortLists (s .lent) ≡ false
+  pub totals : wrongTotals s ≡ false
+
+-- what of it matters to the core
 pub record Usable (c : Core) : Type 0 where
   pub limits : beyond (c .bench) ≡ false
   pub lists : tooFewPlaces (c .names) (c .counts) ≡ false

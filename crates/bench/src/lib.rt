@@ -76,6 +76,12 @@ pub enum Made {
     Refused(u8),
 }
 
+// The answer of Find: the place of the entry's block in the decided log, and the entry's place inside that block, both from 0.
+pub enum Entry {
+    At(u8, u16),
+    Refused(u8),
+}
+
 // An answer, and the record afterwards.
 pub struct Started {
     pub answer: Start,

@@ -1,13 +1,17 @@
 -- Deciding and the snapshots, case by case: what was found, and so what is left. Assumes nothing.
 use Prim.Native.Nat.{ℕ, _+_, _-_, _≤_, _<_}
+use native.Mathlib.Omega.{arith}
 use mathlib.Core.Bool.{Bool, true, false, _&&_}
 use mathlib.Core.List.{List, []}
-use mathlib.Core.Option.{some}
+use mathlib.Core.Option.{Option, some}
 use mathlib.Core.Path.{_≡_, refl, sym, ap, _∙_}
 use borrow.Author.Tests.{le-leb}
 use lib.Dec.{leb}
+use lib.ListN.{length, drop}
 use Rattle.message.specs.Choice.{pick}
-use Rattle.message.specs.Logs.{Log, isPrefix}
+use Rattle.message.specs.Logs.{Log, isPrefix, countsOf}
+use Rattle.message.specs.Numbers.{put}
+use Rattle.message.proofs.PartLaws.{length-put}
 use Rattle.message.specs.Store.{logAt, within, prefixAt, Stores, copyOf}
 use Rattle.message.proofs.ListedLaws.{length-at}
 use Rattle.message.proofs.Inside.{prefix-inside, stored-inside}
@@ -19,13 +23,16 @@ use Rattle.agreement.specs.declared.Grade.{Grade}
 use Rattle.agreement.specs.declared.Grade.the-variants.{Longest, Nothing}
 use Rattle.bench.specs.Layout.{isEven, logsPlace, decidedPlace}
 use Rattle.bench.specs.Calendar.{lastView, deciding}
+use Rattle.bench.specs.Totals.{totalsFrom, unlike}
 use Rattle.bench.specs.Record.{Bench, benchFrom, ofView, agreementOf, withAgreement}
 use Rattle.bench.specs.ByRecord.{usedOf, snappedBy}
 use Rattle.bench.specs.Answers.{coreWith}
 use Rattle.bench.specs.declared.Head.{Head}
 use Rattle.bench.proofs.ActLaws.{settled-none, settled-extends, settled-stays, settled-parts, snapped-late, snapped-view}
-use Rattle.bench.proofs.TestedLaws.{before-within, decided-within}
-use Rattle.calls.specs.Steps.{Decidable, Settling, Settles, Decides, Snaps}
+use Rattle.bench.proofs.TestedLaws.{before-within, decided-within, lists-roomy}
+use Rattle.calls.specs.Steps.{Decidable, Deciding, Settling, Settles, Decides, Snaps}
+use Rattle.calls.specs.TotalSteps.{decidedCounts, Extensible}
+use Rattle.calls.proofs.TotalWalks.{extended-none, kept-counts}
 use Rattle.calls.proofs.FilingCases.{evenHead, oddHead, read-even, read-odd, keep-even, keep-odd}
 use Rattle.calls.proofs.SeeingLaws.{used-whole, seen-none, seen-at}
 
@@ -87,7 +94,13 @@ module _ (h : Head) (names counts : List ℕ) (a k : ℕ) (u : Settling h names 
         rw (le-leb (a + k) decidedPlace (u .before .0), decided-within names counts (u .decidable .lists) k (u .before .1)) in
         let w = stored-inside
         (leb (a + k) decidedPlace && within names counts decidedPlace k) names counts decidedPlace newLog done ns cs ok s in
+        let room = lists-roomy names counts (u .decidable .lists) .1 in
+        let few = u .before .1 in
         record {
+          short = few;
+          size = ap length (w .1 .1) ∙ length-put counts decidedPlace (countsOf newLog);
+          kept = ap (λ (l : List ℕ). decidedCounts l (h .decided)) (w .1 .1)
+              ∙ kept-counts names counts a k (h .decided) (sym extends-is ∙ t) (omega arith);
           whole = λ x y p q.
               rw (settled-extends (coreWith (benchFrom h x y p q) names counts) newLog (sym extends-is ∙ t))
               (record { bench = rw (length-at names counts a k); nameList = w .1 .0; countList = w .1 .1 });
@@ -100,6 +113,9 @@ module _ (h : Head) (names counts : List ℕ) (a k : ℕ) (u : Settling h names 
       -- it is a prefix of it
       pub settle-stays : c ≡ true → Settles h names counts (some newLog) h names counts
       settle-stays t = record {
+        short = u .decidable .short;
+        size = refl;
+        kept = refl;
         whole = λ x y p q.
             rw (settled-stays (coreWith (benchFrom h x y p q) names counts) newLog (sym extends-is ∙ f) (sym covered-is ∙ t))
             (record { bench = refl; nameList = refl; countList = refl });
@@ -108,6 +124,9 @@ module _ (h : Head) (names counts : List ℕ) (a k : ℕ) (u : Settling h names 
       -- they conflict
       pub settle-parts : c ≡ false → Settles h names counts (some newLog) (partedHead h) names counts
       settle-parts t = record {
+        short = u .decidable .short;
+        size = refl;
+        kept = refl;
         whole = λ x y p q.
             rw (settled-parts (coreWith (benchFrom h x y p q) names counts) newLog (sym extends-is ∙ f) (sym covered-is ∙ t))
             (record { bench = refl; nameList = refl; countList = refl });
@@ -125,16 +144,32 @@ module _ (h : Head) (e o names counts : List ℕ) (v : ℕ) (r : Grade)
       → Settling h names counts at k
   decision-settling i k at t p d = record { decidable = d; before = seen-at _ names counts v r w i k at t p .before }
 
-  pub decide-none : r ≡ Nothing → Decides h e o names counts v h names counts
-  decide-none t = record {
+  pub decide-none : (totals : List ℕ) → r ≡ Nothing → Decides h e o names counts totals v h names counts totals
+  decide-none totals t = record {
+    totalList = extended-none counts totals (h .decided) (h .decided) (omega arith);
     whole = λ p q.
         rw (← seen-none _ names counts v r (given p q) t .log, settled-none) (record { bench = refl; nameList = refl; countList = refl });
   }
 
-  pub decide-some : (i k at : ℕ) (c : Head) (ns cs : List ℕ) → r ≡ Longest i k → at ≡ placeOf (logsPlace (v - 1)) i
-      → Settles h names counts (some (logAt names counts at k)) c ns cs → Decides h e o names counts v c ns cs
-  decide-some i k at c ns cs t p l =
-      record { whole = λ x y. rw (← seen-at _ names counts v r (given x y) i k at t p .log) (l .whole e o x y) }
+  pub decide-some : (i k at : ℕ) (c : Head) (ns cs totals ts : List ℕ) → r ≡ Longest i k → at ≡ placeOf (logsPlace (v - 1)) i
+      → Settles h names counts (some (logAt names counts at k)) c ns cs
+      → ts ≡ put totals (h .decided) (drop (h .decided) (totalsFrom 0 (decidedCounts cs (c .decided))))
+      → Decides h e o names counts totals v c ns cs ts
+  decide-some i k at c ns cs totals ts t p l x = record {
+    totalList = x;
+    whole = λ y z. rw (← seen-at _ names counts v r (given y z) i k at t p .log) (l .whole e o y z);
+  }
+
+-- the totals of what stood stand beside the counts as they are now
+pub decision-extensible : (h c : Head) (names counts totals ns cs : List ℕ) (o : Option Log) → Deciding h names counts totals
+    → Settles h names counts o c ns cs → Extensible cs totals (h .decided) (c .decided)
+decision-extensible h c names counts totals ns cs o d s =
+    let n = s .size in
+    let m = lists-roomy names counts (d .decidable .lists) .1 in
+    record {
+      right = ap (λ (ks : List ℕ). unlike (totalsFrom 0 ks) totals) (s .kept) ∙ d .right;
+      walkable = record { short = s .short; countRoom = omega arith; totalRoom = d .room };
+    }
 
 -- ---- snapshots
 

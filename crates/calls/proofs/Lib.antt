@@ -1,5 +1,7 @@
 -- Laws that the proofs of functions cite.
 pub mod LimitCases
+pub mod TotalWalks
+pub mod RefusalCases
 pub mod RecordCases
 pub mod FilingCases
 pub mod ReceiveCases
@@ -9,4 +11,5 @@ pub mod MakingLaws
 pub mod DecidingLaws
 pub mod ActCases
 pub mod CallCases
+pub mod FindCases
 pub mod SupportCases

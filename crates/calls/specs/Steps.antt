@@ -1,12 +1,13 @@
 -- What the inner functions ask and promise: steps on the way to the definitions of bench's ByRecord, which they do not add to. Assumes
 -- nothing.
-use Prim.Native.Nat.{ℕ, _≤_}
+use Prim.Native.Nat.{ℕ, _≤_, _<_}
 use mathlib.Core.Bool.{Bool, true, false, not, _&&_, _||_}
 use lib.Dec.{ltb}
-use lib.ListN.{length}
+use lib.ListN.{length, drop}
 use Rattle.message.specs.Limits.{mostBlocks, lastView}
 use Rattle.message.specs.Choice.{pick}
-use Rattle.message.specs.Causes.{judgedBy}
+use Rattle.message.specs.Causes.{judgedBy, firstFailure}
+use Rattle.message.specs.Numbers.{put}
 use Rattle.agreement.specs.Limits.{mostSenders}
 use Rattle.agreement.specs.Record.{Agreement, isSender, one, two}
 use Rattle.agreement.specs.Grades.{snapshotFor, logOf}
@@ -21,15 +22,17 @@ use mathlib.Core.Option.{Option, some, none}
 use mathlib.Core.Path.{_≡_}
 use Rattle.message.specs.Logs.{Block, Log}
 use Rattle.message.specs.Store.{logAt, logFrom, proposalFrom}
-use Rattle.bench.specs.Record.{Bench, benchFrom, beatOf, anyPlace, namesBeyond}
+use Rattle.bench.specs.Record.{Bench, benchFrom, beatOf, anyPlace, namesBeyond, beyond}
 use Rattle.bench.specs.Calendar.{voting, deciding}
 use Rattle.bench.specs.Layout.{mostBytes, isEven, tooFewPlaces}
+use Rattle.bench.specs.Totals.{totalsFrom, unlike, extended}
 use Rattle.bench.specs.Calls.{acted, openTo, refused, Core}
 use Rattle.bench.specs.Causes.{messageCauses}
 use Rattle.bench.specs.Acts.{outAfter}
-use Rattle.bench.specs.Tested.{Before}
+use Rattle.bench.specs.Tested.{Before, Served, Tested}
 use Rattle.bench.specs.ByRecord.{Effect, fileLog, fileProposal, fileMessage, taken, usedOf, seenOf, withMade, settled, snappedBy}
-use Rattle.bench.specs.Answers.{coreWith, takenReply, madeReply}
+use Rattle.bench.specs.ByRecord.{recordCauses, decidedLog}
+use Rattle.bench.specs.Answers.{heldWith, coreWith, takenReply, madeReply}
 use Rattle.bench.specs.declared.Head.{Head}
 use Rattle.bench.specs.declared.Taken.{Taken}
 use Rattle.bench.specs.declared.Made.{Made}
@@ -37,6 +40,7 @@ use Rattle.bench.specs.declared.ReceivedHead.{ReceivedHead}
 use Rattle.bench.specs.Support.{orEmpty}
 use Rattle.bench.specs.declared.ActedHead.{ActedHead}
 use Rattle.bench.specs.declared.Counted.{Counted}
+use Rattle.calls.specs.TotalSteps.{decidedCounts}
 use Rattle.calls.specs.declared.seeing.Found.{Found}
 use Rattle.calls.specs.declared.seeing.Found.the-variants.{At, Nowhere}
 
@@ -58,6 +62,23 @@ badSets n m =
     || (anyPlace (λ (i : ℕ). member (m .voters) i && member (m .equivocators) i)
     || (anyPlace (outside m (m .one .senders)) || anyPlace (outside m (m .two .senders)))))))
 
+-- ---- what every call on a record is refused by: 9, 8, 9 by the totals
+
+-- r is the number of the first that is so, or 0 where none is; priorities do not matter
+pub record Judges (h : Head) (even odd proposed names counts totals : List ℕ) (r : ℕ) : Type 0 where
+  pub refuses : (priorities : List ℕ) → 0 < r
+      → firstFailure (recordCauses (heldWith (benchFrom h even odd proposed priorities) names counts totals)) ≡ some r
+  pub serves : (priorities : List ℕ) → r ≤ 0 → Served (heldWith (benchFrom h even odd proposed priorities) names counts totals)
+
+-- the same of every record that is beyond its limits, or not, and has this decided length
+pub record JudgesBy (over : Bool) (decided : ℕ) (names counts totals : List ℕ) (r : ℕ) : Type 0 where
+  pub whole : (h : Head) (even odd proposed : List ℕ) → over ≡ beyond (benchFrom h even odd proposed []) → h .decided ≡ decided
+      → Judges h even odd proposed names counts totals r
+
+-- and what it asks: a record within its limits has a decided length within its own
+pub record Limited (over : Bool) (decided : ℕ) : Type 0 where
+  pub short : over ≡ false → decided ≤ mostBlocks
+
 -- ---- answered so, and record, lists and buffer left so: as ReceiveGives and ActGives of bench's Answers say it of a call
 
 pub record TakeGives (t : Effect) (a : Taken) (b : Bench) (names counts : List ℕ) : Type 0 where
@@ -72,6 +93,11 @@ pub record MakeGives (t : Effect) (a : Made) (b : Bench) (names counts out : Lis
   pub nameList : names ≡ t .core .names
   pub countList : counts ≡ t .core .counts
   pub buffer : out ≡ t .answer .out
+
+-- an act, with the totals beside its core
+pub record ActLeaves (totals : List ℕ) (old : ℕ) (t : Effect) (a : Made) (b : Bench) (names counts totals′ out : List ℕ) : Type 0 where
+  pub made : MakeGives t a b names counts out
+  pub totalList : totals′ ≡ extended totals old (decidedLog (t .core))
 
 -- ---- a message filed, or taken: whatever the arrays that it does not concern
 
@@ -191,13 +217,27 @@ pub record Settling (h : Head) (names counts : List ℕ) (a k : ℕ) : Type 0 wh
   pub decidable : Decidable h names counts
   pub before : Before a k
 
--- a decision, whatever the arrays
+-- a decision, whatever the arrays; the counts of what stood decided stay
 pub record Settles (h : Head) (names counts : List ℕ) (o : Option Log) (r : Head) (names′ counts′ : List ℕ) : Type 0 where
+  pub short : r .decided ≤ mostBlocks
+  pub size : length counts′ ≡ length counts
+  pub kept : decidedCounts counts′ (h .decided) ≡ decidedCounts counts (h .decided)
   pub whole : (even odd proposed priorities : List ℕ)
       → Leaves (settled (coreWith (benchFrom h even odd proposed priorities) names counts) o)
       (benchFrom r even odd proposed priorities) names′ counts′
 
-pub record Decides (h : Head) (even odd names counts : List ℕ) (v : ℕ) (r : Head) (names′ counts′ : List ℕ) : Type 0 where
+-- what deciding asks, with the totals: those of what stands decided are right
+pub record Deciding (h : Head) (names counts totals : List ℕ) : Type 0 where
+  pub decidable : Decidable h names counts
+  pub room : mostBlocks ≤ length totals
+  pub right : unlike (totalsFrom 0 (decidedCounts counts (h .decided))) totals ≡ false
+
+pub record Acting (h : Head) (even odd proposed priorities names counts totals out : List ℕ) : Type 0 where
+  pub tested : Tested (coreWith (benchFrom h even odd proposed priorities) names counts) out
+  pub deciding : Deciding h names counts totals
+
+pub record Decides (h : Head) (even odd names counts totals : List ℕ) (v : ℕ) (r : Head) (names′ counts′ totals′ : List ℕ) : Type 0 where
+  pub totalList : totals′ ≡ put totals (h .decided) (drop (h .decided) (totalsFrom 0 (decidedCounts counts′ (r .decided))))
   pub whole : (proposed priorities : List ℕ)
       → Leaves (settled (coreWith (benchFrom h even odd proposed priorities) names counts)
       (usedOf (coreWith (benchFrom h even odd proposed priorities) names counts) v deciding))

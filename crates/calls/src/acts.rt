@@ -3,8 +3,7 @@ ghost use Rattle.bench.specs.Calendar.{viewOf, placeIn, actAt};
 ghost use Rattle.bench.specs.Record.{benchFrom, beatOf};
 ghost use Rattle.bench.specs.ByRecord.{over, actedOf};
 ghost use Rattle.bench.specs.Answers.{coreWith};
-ghost use Rattle.bench.specs.Tested.{Tested};
-ghost use Rattle.calls.specs.Steps.{bare, MakeGives};
+ghost use Rattle.calls.specs.Steps.{bare, Acting, ActLeaves};
 use super::deciding::decide;
 use super::deciding::snap_view;
 use super::making::propose;
@@ -23,19 +22,20 @@ pub(crate) fn act_at(
     priorities: &mut [u64; 32],
     names: &mut [u64],
     counts: &mut [u16],
+    totals: &mut [u32],
     out: &mut [u8],
     name: u64,
     count: u16,
     priority: u64,
 ) -> ActedHead
-    requires { ⌜ Tested (coreWith (benchFrom h (now even) (now odd) (now proposed) (now priorities)) (now names) (now counts)) (now out) ⌝ }
-    ensures { λ r. ⌜ MakeGives
+    requires { ⌜ Acting h (now even) (now odd) (now proposed) (now priorities) (now names) (now counts) (now totals) (now out) ⌝ }
+    ensures { λ r. ⌜ ActLeaves (now (totals .entry)) (h .decided)
         (actedOf (over (coreWith (benchFrom h (now (even .entry)) (now (odd .entry)) (now (proposed .entry)) (now (priorities .entry)))
         (now (names .entry)) (now (counts .entry))))
         (record { name = name; count = count }) priority (now (out .entry)) (viewOf (beatOf (bare h))) (actAt (placeIn (beatOf (bare h)))))
         (r .answer)
         (benchFrom (r .head) (now (even .exit)) (now (odd .exit)) (now (proposed .exit)) (now (priorities .exit))) (now (names .exit))
-        (now (counts .exit)) (now (out .exit)) ⌝ }
+        (now (counts .exit)) (now (totals .exit)) (now (out .exit)) ⌝ }
 {
     let beat = beat_of(h);
     let v = beat / 4;
@@ -62,7 +62,7 @@ pub(crate) fn act_at(
         return vote(b, even, odd, proposed, priorities, names, counts, out, v);
     }
     if place == 2 {
-        let c = decide(b, even, odd, names, counts, v);
+        let c = decide(b, even, odd, names, counts, totals, v);
         return ActedHead {
             answer: Made::Nothing,
             head: snap_view(c, even, odd, v, false),

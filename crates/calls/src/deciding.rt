@@ -1,11 +1,12 @@
 // Deciding, and the snapshots.
 ghost use mathlib.Core.Option.{some};
 ghost use Rattle.message.specs.Store.{logAt};
-ghost use Rattle.calls.specs.Steps.{Settling, Decidable, Settles, Decides, Snaps};
+ghost use Rattle.calls.specs.Steps.{Settling, Deciding, Settles, Decides, Snaps};
 use super::record::is_even;
 use super::record::of_view;
 use super::seeing::place_before;
 use super::seeing::used;
+use super::totals::extend_totals;
 use agreement::Grade;
 use agreement::snap;
 use bench::DECIDED_PLACE;
@@ -35,24 +36,27 @@ fn settle(h: Head, names: &mut [u64], counts: &mut [u16], at: usize, blocks: u8)
     c
 }
 
-// The longest log with grade 2 of the view before v, where there is one, is decided.
+// The longest log with grade 2 of the view before v, where there is one, is decided, and the totals of its new blocks are written.
 pub(crate) fn decide(
     h: Head,
     even: &[u8; 32],
     odd: &[u8; 32],
     names: &mut [u64],
     counts: &mut [u16],
+    totals: &mut [u32],
     v: u32,
 ) -> Head
-    requires { ⌜ Decidable h (now names) (now counts) ⌝ }
-    ensures { λ r. ⌜ Decides h (now (even .entry)) (now (odd .entry)) (now (names .entry)) (now (counts .entry)) v r (now (names .exit))
-        (now (counts .exit)) ⌝ }
+    requires { ⌜ Deciding h (now names) (now counts) (now totals) ⌝ }
+    ensures { λ r. ⌜ Decides h (now (even .entry)) (now (odd .entry)) (now (names .entry)) (now (counts .entry)) (now (totals .entry)) v r
+        (now (names .exit)) (now (counts .exit)) (now (totals .exit)) ⌝ }
 {
     let Grade::Longest(i, blocks) = used(h, even, odd, names, counts, v, 2) else {
         return h;
     };
     let at = place_before(v, i);
-    settle(h, names, counts, at, blocks)
+    let c = settle(h, names, counts, at, blocks);
+    extend_totals(counts, totals, h.decided, c.decided);
+    c
 }
 
 // A snapshot of view v is taken, the second or the first, where there is such a view.

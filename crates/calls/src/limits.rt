@@ -1,13 +1,15 @@
-// Refusals 7, 8 and 9. What a record within its limits is stands in crate bench (specs/Record.antt); all 32 places of each array are
-// looked at.
+// Refusals 7, 8 and 9, the last by the totals too. What a record within its limits is stands in crate bench (specs/Record.antt); all
+// 32 places of each array are looked at.
 ghost use mathlib.Core.Path.{_≡_};
 ghost use mathlib.Core.Bool.{_||_};
 ghost use lib.Dec.{ltb};
 ghost use mathlib.Core.List.{[]};
 ghost use Rattle.message.specs.Limits.{lastView};
-ghost use Rattle.bench.specs.Layout.{outOfRange, tooFewPlaces};
+ghost use Rattle.bench.specs.Layout.{outOfRange, shortLists};
 ghost use Rattle.bench.specs.Record.{benchFrom, anyPlace, namesBeyond, beyond};
-ghost use Rattle.calls.specs.Steps.{badSets};
+ghost use Rattle.bench.specs.Answers.{lentAs};
+ghost use Rattle.calls.specs.Steps.{badSets, Limited, JudgesBy};
+use super::totals::are_unlike;
 use agreement::MOST_SENDERS;
 use agreement::Marks;
 use agreement::Shown;
@@ -29,10 +31,10 @@ pub(crate) fn is_out_of_range(n: u8, own: u8) -> bool
 }
 
 // A lent list is too short.
-pub(crate) fn is_short(names: &[u64], counts: &[u16]) -> bool
-    ensures { λ r. ⌜ r ≡ tooFewPlaces (now (names .entry)) (now (counts .entry)) ⌝ }
+pub(crate) fn is_short(names: &[u64], counts: &[u16], totals: &[u32]) -> bool
+    ensures { λ r. ⌜ r ≡ shortLists (lentAs (now (names .entry)) (now (counts .entry)) (now (totals .entry))) ⌝ }
 {
-    (names.len() < LEAST_LENT) | (counts.len() < LEAST_LENT)
+    ((names.len() < LEAST_LENT) | (counts.len() < LEAST_LENT)) | (totals.len() < MOST_BLOCKS)
 }
 
 // A set of an agreement names n or above, a sender is in V and in E, or one of a snapshot is in neither. Sets of which the same is
@@ -69,4 +71,28 @@ pub(crate) fn is_beyond(h: Head, even: &[u8; 32], odd: &[u8; 32], proposed: &[u8
                 | (are_over(even, odd, proposed, MOST_BLOCKS)
                     | (is_beyond_agreement(h.even, n)
                         | (is_beyond_agreement(h.odd, n) | is_beyond_proposals(h.shown, n))))))
+}
+
+// What every call on a record is refused by: 9, 8, 9 by the totals, the first of them that is so; 0 where none is. It is handed whether
+// the record is beyond its limits and its decided length, and not the head, which would be copied for it.
+pub(crate) fn record_refusal(
+    beyond: bool,
+    decided: u16,
+    names: &[u64],
+    counts: &[u16],
+    totals: &[u32],
+) -> u8
+    requires { ⌜ Limited beyond decided ⌝ }
+    ensures { λ r. ⌜ JudgesBy beyond decided (now (names .entry)) (now (counts .entry)) (now (totals .entry)) r ⌝ }
+{
+    if beyond {
+        return 9;
+    }
+    if is_short(names, counts, totals) {
+        return 8;
+    }
+    if are_unlike(counts, totals, decided) {
+        return 9;
+    }
+    0
 }

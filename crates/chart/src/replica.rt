@@ -14,6 +14,7 @@ use bench::Start;
 use bench::Taken;
 use message::BLOCK_WIDTH;
 use message::HEAD_LENGTH;
+use message::MOST_BLOCKS;
 use message::Message;
 use message::reader::read;
 use message::writer::write_log;
@@ -29,6 +30,7 @@ pub(crate) struct Replica {
     pub(crate) bench: Bench,
     names: [u64; LEAST_LENT],
     counts: [u16; LEAST_LENT],
+    totals: [u32; MOST_BLOCKS],
     pub(crate) answer: usize,
 }
 
@@ -106,12 +108,14 @@ impl Replica {
     pub(crate) fn fresh() -> Replica {
         let names = [0u64; LEAST_LENT];
         let counts = [0u16; LEAST_LENT];
-        let opened = calls::open(BENCHES, 0, &names, &counts);
+        let totals = [0u32; MOST_BLOCKS];
+        let opened = calls::open(BENCHES, 0, &names, &counts, &totals);
         let bench = opened.bench;
         Replica {
             bench,
             names,
             counts,
+            totals,
             answer: 0,
         }
     }
@@ -126,8 +130,9 @@ impl Replica {
     pub(crate) fn begin(self, beat: u32) -> Replica {
         let names = self.names;
         let counts = self.counts;
+        let totals = self.totals;
         let mut replica = self;
-        let begun = calls::begin(self.bench, &names, &counts, beat);
+        let begun = calls::begin(self.bench, &names, &counts, &totals, beat);
         let answer = begun.answer;
         if let Start::Refused(x) = answer {
             replica.answer = x as usize;
@@ -155,13 +160,15 @@ impl Replica {
     fn take(self, message: &[u8]) -> Replica {
         let mut names = self.names;
         let mut counts = self.counts;
-        let received = calls::receive(self.bench, &mut names, &mut counts, message);
+        let totals = self.totals;
+        let received = calls::receive(self.bench, &mut names, &mut counts, &totals, message);
         let answer = received.answer;
         let bench = received.bench;
         Replica {
             bench,
             names,
             counts,
+            totals,
             answer: taken(answer),
         }
     }
@@ -170,8 +177,18 @@ impl Replica {
     pub(crate) fn act(self) -> Deed {
         let mut names = self.names;
         let mut counts = self.counts;
+        let mut totals = self.totals;
         let mut out = [0u8; MOST_BYTES];
-        let acted = calls::act(self.bench, &mut names, &mut counts, &mut out, 6, 1, 9);
+        let acted = calls::act(
+            self.bench,
+            &mut names,
+            &mut counts,
+            &mut totals,
+            &mut out,
+            6,
+            1,
+            9,
+        );
         let answer = acted.answer;
         let bench = acted.bench;
         let message = made_message(answer, &out);
@@ -180,6 +197,7 @@ impl Replica {
                 bench,
                 names,
                 counts,
+                totals,
                 answer: self.answer,
             },
             made: message.made,

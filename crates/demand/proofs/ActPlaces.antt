@@ -9,9 +9,9 @@ use mathlib.Core.Option.{Option, some, none, Option·some-injective}
 use mathlib.Core.Bool.{true}
 use Rattle.message.specs.Message.{Content}
 use Rattle.bench.specs.Terms.{Seat}
-use Rattle.bench.specs.Calls.{Call, begin, receive, act}
+use Rattle.bench.specs.Calls.{Call, begin, receive, act, find}
 use Rattle.bench.specs.History.{History, ActRecord, refusal, accepted, madeBy, decidedBy, after, awake, heardAt}
-use Rattle.bench.proofs.CallLaws.{act-ok, accepted-begin, recordOf, accepted-actions-act, accepted-actions-receive}
+use Rattle.bench.proofs.CallLaws.{act-ok, accepted-begin, accepted-find, recordOf, accepted-actions-act, accepted-actions-receive}
 use Rattle.bench.proofs.HistoryLaws.{awake-acted, actedAt-mem, mem-actedAt, heardAt-mem, mem-heardAt}
 use Rattle.demand.specs.Places.{At, ActsAfter}
 use Rattle.demand.proofs.Starts.{along}
@@ -33,6 +33,7 @@ module _ (S : Seat) (cs : List Call) where
   actPlace-step pre (begin b) at ok ih d i = ih d (subst (λ (q : History). Mem d (q .actions)) (accepted-begin S (after S pre) b) i)
   actPlace-step pre (receive bytes) at ok ih d i =
       ih d (subst (λ (l : List ActRecord). Mem d l) (accepted-actions-receive S (after S pre) bytes ok) i)
+  actPlace-step pre (find e) at ok ih d i = ih d (subst (λ (q : History). Mem d (q .actions)) (accepted-find S (after S pre) e) i)
   actPlace-step pre (act x r o) at ok ih d i =
       elim (List·Memᴰ·cases-cons (subst (λ (l : List ActRecord). Mem d l) (accepted-actions-act S p x r o) i)) [
         | inl e ↦ subst (ActPlace S cs) (sym e) here

@@ -13,9 +13,9 @@ use borrow.Author.Tests.{leb-false}
 use Rattle.message.specs.Logs.{Block}
 use Rattle.message.specs.Message.{Content}
 use Rattle.bench.specs.Terms.{Seat}
-use Rattle.bench.specs.Calls.{Call, begin, receive, act}
+use Rattle.bench.specs.Calls.{Call, begin, receive, act, find}
 use Rattle.bench.specs.History.{History, ActRecord, beatNow, refusal, notAbove, closed, accepted, madeBy, decidedBy, after}
-use Rattle.bench.proofs.CallLaws.{begin-ok, act-ok, receive-ok, file-last, made-last, made-gathering, file-heard, made-heard}
+use Rattle.bench.proofs.CallLaws.{begin-ok, act-ok, receive-ok, file-last, made-last, made-gathering, file-heard, made-heard, accepted-find}
 use Rattle.bench.proofs.CallLaws.{accepted-begin, accepted-receive, accepted-act, recordOf, accepted-actions-act, accepted-actions-receive}
 use Rattle.bench.proofs.HistoryLaws.{afterFrom-keeps, after-append, after-ok}
 use Rattle.demand.specs.Places.{At, ActsAfter}
@@ -72,6 +72,7 @@ module _ (S : Seat) where
       let w = upTo-begin p b c ok u in let l = w .le in record { top = w .top; last = w .last; le = omega arith }
   upTo-step p b (receive bytes) ok u = record { top = u .top; last = receive-last p bytes ok ∙ u .last; le = u .le }
   upTo-step p b (act x r o) ok u = record { top = u .top; last = act-last p x r o ∙ u .last; le = u .le }
+  upTo-step p b (find e) ok u = subst (λ (q : History). UpTo q b) (sym (accepted-find S p e)) u
 
 -- b is below the beat of a gathering, and at most the last begun beat
 abbrev pub Below : History → ℕ → Type 0
@@ -90,6 +91,7 @@ module _ (S : Seat) where
     λ g. upTo-step S p (suc b) (receive bytes) ok (w .1 (receive-ok S p bytes ok .gathering)),
   )
   below-step p b (act x r o) ok w = below-act p b x r o ok (w .0)
+  below-step p b (find e) ok w = subst (λ (q : History). Below q b) (sym (accepted-find S p e)) w
 
   -- in a gathering there is a beat
   abbrev HasBeat : History → Type 0
@@ -99,6 +101,7 @@ module _ (S : Seat) where
   hasBeat-step p (begin b) ok h g = (b, ap (λ (q : History). q .last) (accepted-begin S p b))
   hasBeat-step p (receive bytes) ok h g = let x = h (receive-ok S p bytes ok .gathering) in (x .0, receive-last S p bytes ok ∙ x .1)
   hasBeat-step p (act x r o) ok h g = absurd (false≢true (sym (act-gathering S p x r o) ∙ g))
+  hasBeat-step p (find e) ok h g = subst HasBeat (sym (accepted-find S p e)) h g
 
   pub has-beat : (pre : List Call) → after S pre .gathering ≡ true → (b : ℕ) × (after S pre .last ≡ some b)
   has-beat pre =
@@ -111,6 +114,7 @@ module _ (S : Seat) where
   actions-step d p (begin b) ok i = subst (λ (q : History). Mem d (q .actions)) (sym (accepted-begin S p b)) i
   actions-step d p (receive bytes) ok i = subst (λ (l : List ActRecord). Mem d l) (sym (accepted-actions-receive S p bytes ok)) i
   actions-step d p (act x r o) ok i = subst (λ (l : List ActRecord). Mem d l) (sym (accepted-actions-act S p x r o)) (List·Memᴰ·tail i)
+  actions-step d p (find e) ok i = subst (λ (q : History). Mem d (q .actions)) (sym (accepted-find S p e)) i
 
   heard-step : (h : Content) (p : History) (c : Call) → refusal S p c ≡ none → Mem h (p .heard) → Mem h (accepted S p c .heard)
   heard-step h p (begin b) ok i = subst (λ (q : History). Mem h (q .heard)) (sym (accepted-begin S p b)) i
@@ -120,6 +124,7 @@ module _ (S : Seat) where
   heard-step h p (act x r o) ok i =
       let m = madeBy S p x r in
       subst (λ (q : History). Mem h (q .heard)) (sym (accepted-act S p x r o)) (made-heard (closed p m (decidedBy S p)) m h i)
+  heard-step h p (find e) ok i = subst (λ (q : History). Mem h (q .heard)) (sym (accepted-find S p e)) i
 
   pub heard-grow : (xs ys : List Call) (h : Content) → Mem h (after S xs .heard) → Mem h (after S (xs ++ ys) .heard)
   heard-grow xs ys h i =
@@ -156,6 +161,7 @@ module _ (S : Seat) where
             below-act p (d .beat) x r o ok (record { top = b .0; last = b .1; le = omega arith })
         | inr j ↦ below-step p (d .beat) (act x r o) ok (h d j)
       ]
+  actsBelow-step p (find e) ok has h d i = subst ActsBelow (sym (accepted-find S p e)) h d i
 
   actions-below : (pre : List Call) → ActsBelow (after S pre)
   actions-below pre =

@@ -16,7 +16,7 @@ use Rattle.agreement.specs.Sets.{weigh}
 use Rattle.agreement.specs.Filing.{Word, first, second, known}
 use Rattle.bench.specs.Terms.{Seat, seatOf, weightOf}
 use Rattle.bench.specs.Calendar.{viewBeat, closeBeat}
-use Rattle.bench.specs.Calls.{Call, begin, receive, act}
+use Rattle.bench.specs.Calls.{Call, begin, receive, act, find}
 use Rattle.bench.specs.History.{History, ActRecord, fresh, beatNow, refusal, wordFor, madeBy, step, after, afterFrom}
 use Rattle.bench.proofs.CallLaws.{filed-heard, accepted-begin, receive-ok, taken-reply, took-injective, accepted-receive, recordOf}
 use Rattle.bench.proofs.CallLaws.{receive-open}
@@ -65,6 +65,7 @@ unfoldable pub sentBy : Seat → History → Call → List SentLog
 sentBy S p (begin b) = []
 sentBy S p (receive bytes) = unlessRefused (refusal S p (receive bytes)) (sentRead p (readOf (S .terms .n) bytes))
 sentBy S p (act block priority out) = unlessRefused (refusal S p (act block priority out)) (sentMade p (madeBy S p block priority))
+sentBy S p (find e) = []
 
 unfoldable pub sentList : Seat → History → List Call → List SentLog
 sentList S p [] = []

@@ -9,9 +9,10 @@ use mathlib.Core.Option.{Option, some, none, Option·some-injective}
 use Rattle.message.specs.Logs.{Block}
 use Rattle.message.specs.Message.{Content, Meaning, logMessage, means}
 use Rattle.bench.specs.Terms.{Seat}
-use Rattle.bench.specs.Calls.{Call, begin, receive, act}
+use Rattle.bench.specs.Calls.{Call, begin, receive, act, find}
 use Rattle.bench.specs.History.{History, refusal, fileMade, closed, accepted, madeBy, decidedBy, after}
 use Rattle.bench.proofs.CallLaws.{act-ok, receive-ok, Receives, filed-heard, filed-cases, made-cases, accepted-begin, accepted-receive}
+use Rattle.bench.proofs.CallLaws.{accepted-find}
 use Rattle.bench.proofs.CallLaws.{accepted-act}
 use Rattle.bench.proofs.HistoryLaws.{after-ok}
 use Rattle.demand.specs.Places.{At, ActsAfter, MakesAfter, TakesAfter}
@@ -30,6 +31,7 @@ call-kind : Call → ℕ
 call-kind (begin b) = 0
 call-kind (receive bytes) = 1
 call-kind (act x r o) = 2
+call-kind (find e) = 3
 
 receive-is-no-act : (bytes : List ℕ) (x : Block) (r : ℕ) (o : List ℕ) → receive bytes ≡ act x r o → ⊥
 unfolding call-kind
@@ -77,6 +79,8 @@ module _ (S : Seat) (cs : List Call) where
           made pre (b .0)
           (record { acts = record { block = x; priority = r; out = o; place = at; ok = ok; beat = b .1 }; made = e })
           (below-act S p (b .0) x r o ok (upTo-now p (b .0) (b .1)))
+  heardFrom-step pre (find e) at ok ih h i =
+      from-step (after S pre) (find e) h ok (ih h (subst (λ (q : History). Mem h (q .heard)) (accepted-find S (after S pre) e) i))
 
   -- Every LOG heard after a start of the list was taken or made in it.
   pub heard-from : (pre post : List Call) → cs ≡ pre ++ post → (h : Content) → Mem h (after S pre .heard) → From S cs (after S pre) h

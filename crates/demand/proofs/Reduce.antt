@@ -4,10 +4,12 @@ use mathlib.Core.Path.{_≡_, sym, ap, subst, _∙_}
 use mathlib.Core.List.{List, [], _∷_, _++_}
 use mathlib.Core.Option.{some}
 use mathlib.Core.Bool.{false}
+use lib.ListN.{length, take}
 use Rattle.message.specs.Logs.{Log}
 use Rattle.message.proofs.LogLaws.{no-conflict-iff}
 use Rattle.bench.specs.Terms.{Terms, Seat, seatOf}
-use Rattle.bench.specs.Calls.{Call, begin, State, Typed, AllTyped}
+use Rattle.bench.specs.Calls.{Call, begin, State, Typed, AllTyped, find}
+use Rattle.bench.specs.Totals.{totalsOf}
 use Rattle.bench.specs.Acts.{Stand}
 use Rattle.bench.specs.History.{History, fresh, refusal, step, answer, answersFrom, afterFrom, after, standIn, stand}
 use Rattle.bench.specs.ByRecord.{standing}
@@ -67,6 +69,9 @@ pub record Simulation (M : Machine) : Type 1 where
   pub same-standing : (S : Seat) (x : State) (p : History) → Rel S x p → standing x ≡ standIn (S .stood) (p .actions)
   pub refusals : (S : Seat) (w : Way) (x : State) (p : History) (c : Call) (k : ℕ) → Rel S x p → Typed c → refusal S p c ≡ some k
       → call M w x c .held ≡ x
+  pub same-totals : (S : Seat) (x : State) (p : History) → Rel S x p
+      → take (length (standIn (S .stood) (p .actions) .log)) (x .lent .totals) ≡ totalsOf (standIn (S .stood) (p .actions) .log)
+  pub finds : (S : Seat) (w : Way) (x : State) (p : History) (e : ℕ) → Rel S x p → Typed (find e) → call M w x (find e) .held ≡ x
   pub begins : (S : Seat) (w : Way) (x : State) (p : History) (b : ℕ) → Rel S x p → Typed (begin b)
       → call M w x (begin b) .held .lent ≡ x .lent
 
@@ -104,6 +109,14 @@ faithful M I = record {
   refusals = λ T own x es w c k o t y e.
       I .refusals (seatOf T own) w (runs M x es) (after (seatOf T own) (callsIn es)) c k
       (sim-all M I (seatOf T own) es x (I .opens T own x o) t) y e;
+  totalled = λ T own x es o t.
+      subst (λ (st : Stand). take (length (st .log)) (runs M x es .lent .totals) ≡ totalsOf (st .log))
+      (sym (stand-in (seatOf T own) (callsIn es)))
+      (I .same-totals (seatOf T own) (runs M x es) (after (seatOf T own) (callsIn es))
+      (sim-all M I (seatOf T own) es x (I .opens T own x o) t));
+  finds = λ T own x es w e o t y.
+      I .finds (seatOf T own) w (runs M x es) (after (seatOf T own) (callsIn es)) e
+      (sim-all M I (seatOf T own) es x (I .opens T own x o) t) y;
   begins = λ T own x es w b o t y.
       I .begins (seatOf T own) w (runs M x es) (after (seatOf T own) (callsIn es)) b
       (sim-all M I (seatOf T own) es x (I .opens T own x o) t) y;

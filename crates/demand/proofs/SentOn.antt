@@ -17,9 +17,10 @@ use Rattle.agreement.specs.Heard.{logsFrom, heardLogs}
 use Rattle.agreement.proofs.KeptOfLaws.{logsFrom-nil, logsFrom-cons}
 use Rattle.agreement.proofs.SenderLaws.{Status, no-log, status-add, status-map}
 use Rattle.bench.specs.Terms.{Seat}
-use Rattle.bench.specs.Calls.{Call, begin, receive, act, took}
+use Rattle.bench.specs.Calls.{Call, begin, receive, act, took, find}
 use Rattle.bench.specs.History.{History, refusal, file, fileMade, closed, accepted, madeBy, decidedBy, after, wordFor}
 use Rattle.bench.proofs.CallLaws.{act-ok, receive-ok, taken-reply, word-log, log-heard, proposal-heard, accepted-begin, accepted-receive}
+use Rattle.bench.proofs.CallLaws.{accepted-find}
 use Rattle.bench.proofs.CallLaws.{accepted-act}
 use Rattle.demand.specs.Places.{At, MakesAfter, TakesAfter, PassedOn, Sends, sendsMade, sendsOn}
 use Rattle.demand.proofs.Starts.{along}
@@ -140,6 +141,8 @@ module _ (S : Seat) (cs : List Call) (v s : ℕ) where
       sound-same (after S pre) (begin b) ok g (ap (λ (q : History). q .heard) (accepted-begin S (after S pre) b))
   sound-step pre (receive bytes) at ok g = sound-receive pre bytes at ok g
   sound-step pre (act x r o) at ok g = sound-act pre x r o at ok g
+  sound-step pre (find e) at ok g =
+      sound-same (after S pre) (find e) ok g (ap (λ (q : History). q .heard) (accepted-find S (after S pre) e))
 
   -- After any start of the list a sender's LOGs of a view are none, or one log that was sent on, or more than one, and two different ones
   -- were.

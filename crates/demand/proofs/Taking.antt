@@ -10,9 +10,9 @@ use borrow.Author.Tests.{leb-true}
 use Rattle.message.specs.Message.{Content, logMessage}
 use Rattle.bench.specs.Terms.{Seat}
 use Rattle.bench.specs.Calendar.{lastBeat, inputBeat, closeBeat}
-use Rattle.bench.specs.Calls.{Call, begin, receive, act}
+use Rattle.bench.specs.Calls.{Call, begin, receive, act, find}
 use Rattle.bench.specs.History.{History, beatNow, refusal, accepted, after, afterFrom}
-use Rattle.bench.proofs.CallLaws.{accepted-begin, begin-ok, act-ok, receive-ok, receive-open, receive-refusal}
+use Rattle.bench.proofs.CallLaws.{accepted-begin, begin-ok, act-ok, receive-ok, receive-open, receive-refusal, accepted-find}
 use Rattle.bench.proofs.HistoryLaws.{afterFrom-keeps, after-append}
 use Rattle.demand.specs.Places.{At, Begins, ActsAfter, MakesAfter, TakesAfter, With}
 use Rattle.demand.proofs.Starts.{along}
@@ -91,6 +91,7 @@ module _ (S : Seat) (cs : List Call) where
   lastBegun-step pre (receive bytes) at ok h g c e =
       h (receive-ok S (after S pre) bytes ok .gathering) c (sym (receive-last S (after S pre) bytes ok) ∙ e)
   lastBegun-step pre (act x r o) at ok h g c e = absurd (false≢true (sym (act-gathering S (after S pre) x r o) ∙ g))
+  lastBegun-step pre (find n) at ok h g b e = subst LastBegun (sym (accepted-find S (after S pre) n)) h g b e
 
   pub act-begun : (pre : List Call) (b : ℕ) → ActsAfter S cs pre b → Begins S cs b × (b ≤ lastBeat)
   act-begun pre b a =

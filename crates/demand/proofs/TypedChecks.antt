@@ -8,7 +8,7 @@ use lib.Dec.{ltb}
 use lib.ListN.{length}
 use borrow.Author.Tests.{ltb-true}
 use Rattle.message.specs.Numbers.{AllBelow}
-use Rattle.bench.specs.Calls.{Call, begin, receive, act, Typed, AllTyped}
+use Rattle.bench.specs.Calls.{Call, begin, receive, act, Typed, AllTyped, find}
 use Rattle.demand.specs.Premises.{Volume, Keeps}
 use Rattle.demand.proofs.ListTests.{all, allBelow, below-use, implies, implies-use}
 
@@ -20,6 +20,7 @@ unfoldable pub typedb : Call → Bool
 typedb (begin b) = ltb b (2 ^ 32)
 typedb (receive bytes) = bytesFit bytes
 typedb (act block priority out) = ltb (block .name) (2 ^ 64) && (ltb (block .count) (2 ^ 16) && (ltb priority (2 ^ 64) && bytesFit out))
+typedb (find e) = ltb e (2 ^ 32)
 
 all-below : (s : List ℕ) → all (λ (x : ℕ). ltb x 256) s ≡ true → AllBelow 256 s
 unfolding all
@@ -40,6 +41,7 @@ typed (act block priority out) e =
     let z = and-eq-true-iff _ _ .0 (y .1) in
     let b = bytes-fit out (z .1) in
     (ltb-true (block .name) (2 ^ 64) (x .0), ltb-true (block .count) (2 ^ 16) (y .0), ltb-true priority (2 ^ 64) (z .0), b .0, b .1)
+typed (find n) e = ltb-true n (2 ^ 32) e
 
 all-typed : (cs : List Call) → all typedb cs ≡ true → AllTyped cs
 unfolding all

@@ -14,7 +14,7 @@ use Rattle.agreement.specs.Reading.{Grade, LongestLog}
 use Rattle.agreement.specs.Heard.{heardLogs, votersOf, readingFrom}
 use Rattle.agreement.proofs.GradeSources.{logBy}
 use Rattle.bench.specs.Terms.{Seat, weightOf}
-use Rattle.bench.specs.Calls.{Call, begin, receive, act}
+use Rattle.bench.specs.Calls.{Call, begin, receive, act, find}
 use Rattle.bench.specs.History.{History, madeBy, after}
 use Rattle.bench.proofs.CallLaws.{act-ok}
 use Rattle.demand.specs.Places.{ActsAfter, MakesAfter, sendsMade, Decides}
@@ -36,6 +36,7 @@ abbrev madeOn : Seat → History → Call → Option Meaning
 madeOn S p (begin b) = none
 madeOn S p (receive bytes) = none
 madeOn S p (act block priority out) = madeBy S p block priority
+madeOn S p (find e) = none
 
 abbrev saidOr : Content → Option Meaning → Content
 saidOr d none = d

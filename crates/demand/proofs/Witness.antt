@@ -1,16 +1,14 @@
 -- The premises of demand 3 can be met while a rule-breaker lies, a bench sleeps and calls are refused, and logs are then decided: four
--- benches, of
--- which 0, 1 and 2 keep the rules.
+-- benches, of which 0, 1 and 2 keep the rules.
 --   Number 3 tells two stories, both as LOGs of view 0: [7] to bench 0 first and [8] to bench 1 first, then to each the other.
 --   Bench 0 proposes block 5 with 3 entries at beat 0 and block 6 with none at beat 4.
 --   Benches 0 and 1 are awake at beats 0 to 10. All three vote for [5] at beat 1; 0 and 1 vote for [5,6] at beats 5 and 9.
--- Bench 2 is awake at beats 1, 2 and 6 only: it takes snapshot one of view 0 and sleeps over snapshot two. It begins beat 4, is handed [7]
--- there,
---   and does not act in it.
+--   Bench 2 is awake at beats 1, 2 and 6 only: it takes snapshot one of view 0 and sleeps over snapshot two. It begins beat 4, is handed
+-- [7] there, and does not act in it.
 --   [5] is decided at beat 6 by all three, [5,6] at beat 10 by 0 and 1.
+-- Each looks entries up, in a gathering and at rest, before anything is decided and after.
 -- Refused: 20, a beat begun before; 21, a LOG too early and one too late; 1, bytes that are no message; 11, a short buffer; 22, a second
--- Act and a
---   message before any Begin.
+-- Act and a message before any Begin; 23, an entry at or above the total.
 -- Assumes nothing.
 use Prim.Native.Nat.{ℕ}
 use native.Mathlib.Omega.{arith}
@@ -25,7 +23,7 @@ use Rattle.message.specs.Message.{logMessage, proposalMessage, bytesOf}
 use Rattle.agreement.specs.Filing.{first, second}
 use Rattle.bench.specs.Layout.{mostBytes}
 use Rattle.bench.specs.Terms.{Terms, seatOf}
-use Rattle.bench.specs.Calls.{Call, begin, receive, act, Reply, refused, done, took, acted, Answer, AllTyped, State}
+use Rattle.bench.specs.Calls.{Call, begin, receive, act, Reply, refused, done, took, acted, Answer, AllTyped, State, find, found}
 use Rattle.bench.specs.Acts.{Stand}
 use Rattle.bench.specs.History.{ActRecord, after, answersTo, stand}
 use Rattle.bench.specs.ByRecord.{standing}
@@ -77,17 +75,17 @@ proposal v L = receive (bytesOf (proposalMessage (record { sender = 0; view = v;
 unfoldable pub bench0 : List Call
 unfolding offers acts log
 bench0 =
-    begin 0 ∷ offers 5 3
+    find 0 ∷ begin 0 ∷ offers 5 3
     ∷ begin 1 ∷ acts
     ∷ begin 2 ∷ log 0 1 five ∷ log 0 2 five ∷ log 0 3 seven ∷ acts
     ∷ begin 3 ∷ log 0 3 eight ∷ acts ∷ begin 3
     ∷ begin 4 ∷ log 1 3 seven ∷ offers 6 0
     ∷ begin 5 ∷ acts
-    ∷ begin 6 ∷ log 1 1 fiveSix ∷ acts
+    ∷ begin 6 ∷ log 1 1 fiveSix ∷ acts ∷ find 2 ∷ find 3
     ∷ begin 7 ∷ acts
-    ∷ begin 8 ∷ acts
+    ∷ begin 8 ∷ find 0 ∷ acts
     ∷ begin 9 ∷ acts
-    ∷ begin 10 ∷ log 2 1 fiveSix ∷ acts
+    ∷ begin 10 ∷ log 2 1 fiveSix ∷ acts ∷ find 2 ∷ find 3
     ∷ []
 
 unfoldable pub bench1 : List Call
@@ -99,7 +97,7 @@ bench1 =
     ∷ begin 3 ∷ log 0 3 seven ∷ acts
     ∷ begin 4 ∷ acts
     ∷ begin 5 ∷ proposal 1 fiveSix ∷ acts
-    ∷ begin 6 ∷ log 1 0 fiveSix ∷ acts
+    ∷ begin 6 ∷ log 1 0 fiveSix ∷ acts ∷ find 1
     ∷ begin 7 ∷ log 0 3 seven ∷ acts
     ∷ begin 8 ∷ acts
     ∷ begin 9 ∷ acts
@@ -113,7 +111,7 @@ bench2 =
     ∷ begin 1 ∷ proposal 0 five ∷ acts
     ∷ begin 2 ∷ log 0 0 five ∷ log 0 1 five ∷ acts
     ∷ begin 4 ∷ log 0 3 seven
-    ∷ begin 6 ∷ log 0 3 eight ∷ log 1 0 fiveSix ∷ log 1 1 fiveSix ∷ acts
+    ∷ begin 6 ∷ find 2 ∷ log 0 3 eight ∷ log 1 0 fiveSix ∷ log 1 1 fiveSix ∷ acts ∷ find 2 ∷ find 4294967295
     ∷ []
 
 abbrev pub volume : Volume
@@ -190,15 +188,16 @@ orNumber (refused k) ks = k ∷ ks
 orNumber done ks = ks
 orNumber (took w) ks = ks
 orNumber (acted m) ks = ks
+orNumber (found block inside) ks = ks
 
 abbrev pub refusals : List Answer → List ℕ
 refusals [] = []
 refusals (a ∷ as′) = orNumber (a .reply) (refusals as′)
 
 pub refuses :
-    (refusals (answersTo (seatOf four 0) bench0) ≡ 20 ∷ 21 ∷ [])
+    (refusals (answersTo (seatOf four 0) bench0) ≡ 23 ∷ 20 ∷ 21 ∷ 23 ∷ 23 ∷ [])
     × (refusals (answersTo (seatOf four 1) bench1) ≡ 1 ∷ 11 ∷ 22 ∷ 21 ∷ [])
-    × (refusals (answersTo (seatOf four 2) bench2) ≡ 22 ∷ [])
+    × (refusals (answersTo (seatOf four 2) bench2) ≡ 22 ∷ 23 ∷ 23 ∷ [])
 unfolding computed bench0 bench1 bench2
 refuses = (refl, refl, refl)
 
@@ -209,10 +208,26 @@ pub answers2 :
     ∷ done ∷ took first ∷ acted (some (logMessage (record { sender = 2; view = 0; log = five })))
     ∷ done ∷ took first ∷ took first ∷ acted none
     ∷ done ∷ took first
-    ∷ done ∷ took second ∷ took first ∷ took first ∷ acted none
+    ∷ done ∷ refused 23 ∷ took second ∷ took first ∷ took first ∷ acted none ∷ found 0 2 ∷ refused 23
     ∷ []
 unfolding computed bench2
 answers2 = refl
+
+-- where bench 0 found what it looked up
+abbrev orPlace : Reply → List (ℕ × ℕ) → List (ℕ × ℕ)
+orPlace (refused k) ps = ps
+orPlace done ps = ps
+orPlace (took w) ps = ps
+orPlace (acted m) ps = ps
+orPlace (found block inside) ps = (block, inside) ∷ ps
+
+abbrev places : List Answer → List (ℕ × ℕ)
+places [] = []
+places (a ∷ as′) = orPlace (a .reply) (places as′)
+
+pub finds0 : places (answersTo (seatOf four 0) bench0) ≡ (0, 2) ∷ (0, 0) ∷ (0, 2) ∷ []
+unfolding computed bench0
+finds0 = refl
 
 -- all numbers fit their types
 pub typed : (i : ℕ) → Keeps volume i → AllTyped (volume .calls i)

@@ -1,14 +1,16 @@
--- Demand 3: what is claimed of a machine, that is of four calls as functions on a bench's record and its lent lists. Assumes nothing.
+-- Demand 3: what is claimed of a machine, that is of five calls as functions on a bench's record and its lent lists. Assumes nothing.
 use Prim.Native.Nat.{ℕ}
 use mathlib.Core.Bool.{false}
 use mathlib.Core.List.{List, [], _∷_, _++_}
 use mathlib.Core.Option.{some, none}
 use mathlib.Core.Path.{_≡_}
+use lib.ListN.{length, take}
 use Rattle.message.specs.Logs.{Block, Log, Conflict}
 use Rattle.agreement.specs.Sets.{isYes}
 use Rattle.bench.specs.Terms.{Terms, seatOf}
 use Rattle.bench.specs.Layout.{Lent}
-use Rattle.bench.specs.Calls.{Call, begin, receive, act, refused, done, Answer, State, Opening, Step, Typed, AllTyped, TypedOpen}
+use Rattle.bench.specs.Totals.{totalsOf}
+use Rattle.bench.specs.Calls.{Call, begin, receive, act, find, refused, done, Answer, State, Opening, Step, Typed, AllTyped, TypedOpen}
 use Rattle.bench.specs.History.{openRefusal, refusal, after, answersTo, stand}
 use Rattle.bench.specs.ByRecord.{standing}
 use Rattle.demand.specs.Places.{Decides, LongestDecided}
@@ -16,7 +18,7 @@ use Rattle.demand.specs.Premises.{Volume, seat, Keeps, Delivery, Numbers
 
 -- ---- machines
 
--- The form of a call: on a record by value, or on a lent one. Both count as that call.
+-- The form of a call: on a record by value, or on a lent one. Both count as that call. A look-up has one form.
 pub data Way : Type 0 where
   byValue onLent : Way
 
@@ -25,11 +27,13 @@ pub record Machine : Type 0 where
   pub begin′ : Way → State → ℕ → Step
   pub receive′ : Way → State → List ℕ → Step
   pub act′ : Way → State → Block → ℕ → List ℕ → Step
+  pub find′ : State → ℕ → Step
 
 abbrev pub call : Machine → Way → State → Call → Step
 call M w x (begin b) = M .begin′ w x b
 call M w x (receive bytes) = M .receive′ w x bytes
 call M w x (act block priority out) = M .act′ w x block priority out
+call M w x (find e) = M .find′ x e
 
 -- ---- a list of calls
 
@@ -50,7 +54,7 @@ unfoldable pub answers : Machine → State → List Event → List Answer
 answers M x [] = []
 answers M x (e ∷ es) = call M (e .way) x (e .what) .answer ∷ answers M (call M (e .way) x (e .what) .held) es
 
--- a bench as its Open gave it, on two lent lists of any contents
+-- a bench as its Open gave it, on three lent lists of any contents
 pub record OpenedAs (M : Machine) (T : Terms) (own : ℕ) (x : State) : Type 0 where
   pub typed : TypedOpen (T .n) own (x .lent)
   pub given : M .open′ T own (x .lent) ≡ record { reply = done; bench = x .bench }
@@ -81,6 +85,15 @@ pub record Faithful (M : Machine) : Type 0 where
       (T : Terms) (own : ℕ) (x : State) (es : List Event) (w : Way) (c : Call) (k : ℕ) → OpenedAs M T own x → AllTyped (callsIn es)
       → Typed c
       → refusal (seatOf T own) (after (seatOf T own) (callsIn es)) c ≡ some k → call M w (runs M x es) c .held ≡ runs M x es
+  -- the totals are those of what stands, worked out afresh
+  pub totalled :
+      (T : Terms) (own : ℕ) (x : State) (es : List Event) → OpenedAs M T own x → AllTyped (callsIn es)
+      → take (length (stand (seatOf T own) (callsIn es) .log)) (runs M x es .lent .totals)
+      ≡ totalsOf (stand (seatOf T own) (callsIn es) .log)
+  -- a look-up leaves record and lists
+  pub finds :
+      (T : Terms) (own : ℕ) (x : State) (es : List Event) (w : Way) (e : ℕ) → OpenedAs M T own x → AllTyped (callsIn es) → Typed (find e)
+      → call M w (runs M x es) (find e) .held ≡ runs M x es
   -- Begin does not write the lists
   pub begins :
       (T : Terms) (own : ℕ) (x : State) (es : List Event) (w : Way) (b : ℕ) → OpenedAs M T own x → AllTyped (callsIn es) → Typed (begin b)

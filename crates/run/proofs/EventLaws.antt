@@ -14,10 +14,9 @@ use Rattle.message.proofs.Acceptance.{length-blocks}
 use Rattle.message.proofs.TestLaws.{either}
 use Rattle.agreement.specs.Sets.{isYes}
 use Rattle.bench.specs.Layout.{mostBytes, Lent}
-use Rattle.bench.specs.Calls.{Call, begin, receive, act, refused, done, State, coreOf, Opening, Step}
+use Rattle.bench.specs.Calls.{Call, begin, receive, act, refused, done, State, Opening, Step}
 use Rattle.bench.specs.ByRecord.{openOf, beginOf, receiveOf, actOf}
 use Rattle.bench.specs.Answers.{heldWith, startReply, takenReply, madeReply, OpenGives, BeginGives, ReceiveGives, ActGives}
-use Rattle.calls.specs.Steps.{Leaves}
 use Rattle.bench.specs.Record.{Bench}
 use Rattle.bench.specs.declared.Start.{Start}
 use Rattle.bench.specs.declared.Start.the-variants as starts
@@ -100,54 +99,53 @@ module _ (s : List ℕ) (i a : ℕ) where
 
 -- ---- the call of event i, by what it gave
 
-module _ (s : List ℕ) (i a : ℕ) (x : State) (b : Bench) (ns cs : List ℕ) where
-  gives : (c : Call) (r : Answered) → callAt s i a ≡ c → Leaves (coreOf (stepOf x c .held)) b ns cs
-      → answerText (stepOf x c .held .bench .decided) (isYes (stepOf x c .held .bench .parted)) r ≡ lineOf c (stepOf x c)
-      → EventGives (callAt s i a) x r b ns cs
-  gives c r e f g = rw e (record { leaves = f; line = rw (f .bench) g })
+gives : (s : List ℕ) (i a : ℕ) (x y : State) (c : Call) (r : Answered) → callAt s i a ≡ c → y ≡ stepOf x c .held
+    → answerText (stepOf x c .held .bench .decided) (isYes (stepOf x c .held .bench .parted)) r ≡ lineOf c (stepOf x c)
+    → EventGives (callAt s i a) x r y
+gives s i a x y c r e f g = rw (e, f) (record { left = refl; line = g })
 
-  pub begin-gives : (r : Start) (beat : ℕ) → kindAt s i ≡ beginKind → beat ≡ numberIn 4 s a → BeginGives (beginOf x beat) r b ns cs
-      → EventGives (callAt s i a) x (answers.Begun beat r) b ns cs
+module _ (s : List ℕ) (i a : ℕ) (x : State) (b : Bench) (ns cs ts : List ℕ) where
+  pub begin-gives : (r : Start) (beat : ℕ) → kindAt s i ≡ beginKind → beat ≡ numberIn 4 s a → BeginGives (beginOf x beat) r b ns cs ts
+      → EventGives (callAt s i a) x (answers.Begun beat r) (heldWith b ns cs ts)
   unfolding answerText
   begin-gives r beat u v g =
-      gives (begin beat) (answers.Begun beat r) (call-begin s i a beat u v)
-      (record { bench = g .bench; nameList = g .nameList; countList = g .countList })
+      gives s i a x (heldWith b ns cs ts) (begin beat) (answers.Begun beat r) (call-begin s i a beat u v)
+      (rw (g .bench, g .nameList, g .countList, g .totalList))
       (start-line r (beginOf x beat) beat (g .answered))
 
   pub receive-gives : (r : Taken) (k : ℕ) → (kindAt s i ≡ beginKind → ⊥) → kindAt s i ≡ receiveKind → k ≡ lengthAt s i
-      → ReceiveGives (receiveOf x (take (a + k - a) (drop a s))) r b ns cs
-      → EventGives (callAt s i a) x (answers.Taken r) b ns cs
+      → ReceiveGives (receiveOf x (take (a + k - a) (drop a s))) r b ns cs ts
+      → EventGives (callAt s i a) x (answers.Taken r) (heldWith b ns cs ts)
   unfolding answerText
   receive-gives r k u v e g =
       let bytes = take (a + k - a) (drop a s) in
-      gives (receive bytes) (answers.Taken r) (call-receive s i a k u v e)
-      (record { bench = g .bench; nameList = g .nameList; countList = g .countList })
+      gives s i a x (heldWith b ns cs ts) (receive bytes) (answers.Taken r) (call-receive s i a k u v e)
+      (rw (g .bench, g .nameList, g .countList, g .totalList))
       (taken-line r (receiveOf x bytes) bytes (g .answered))
 
-  pub act-gives : (r : Answered) → (kindAt s i ≡ beginKind → ⊥) → (kindAt s i ≡ receiveKind → ⊥)
-      → EventGives (act (offeredAt s a) (priorityAt s a) freshBuffer) x r b ns cs → EventGives (callAt s i a) x r b ns cs
-  act-gives r u v g = rw (call-act s i a u v) g
+pub act-gives : (s : List ℕ) (i a : ℕ) (x y : State) (r : Answered) → (kindAt s i ≡ beginKind → ⊥) → (kindAt s i ≡ receiveKind → ⊥)
+    → EventGives (act (offeredAt s a) (priorityAt s a) freshBuffer) x r y → EventGives (callAt s i a) x r y
+act-gives s i a x y r u v g = rw (call-act s i a u v) g
 
 -- an act, whatever its body
-pub acted-gives : (s : List ℕ) (a : ℕ) (x : State) (b : Bench) (ns cs : List ℕ) (r : Made) (o : Offer) (l out : List ℕ) → o ≡ offerAt s a
+pub acted-gives : (s : List ℕ) (a : ℕ) (x : State) (b : Bench) (ns cs ts : List ℕ) (r : Made) (o : Offer) (l out : List ℕ)
+    → o ≡ offerAt s a
     → length l ≡ mostBytes
-    → ActGives (actOf x (record { name = o .name; count = o .count }) (o .priority) l) r b ns cs out
-    → EventGives (act (offeredAt s a) (priorityAt s a) freshBuffer) x (answers.Acted r) b ns cs
+    → ActGives (actOf x (record { name = o .name; count = o .count }) (o .priority) l) r b ns cs ts out
+    → EventGives (act (offeredAt s a) (priorityAt s a) freshBuffer) x (answers.Acted r) (heldWith b ns cs ts)
 unfolding answerText offerAt
-acted-gives s a x b ns cs r o l out w n g =
+acted-gives s a x b ns cs ts r o l out w n g =
     let block : Block = record { name = o .name; count = o .count } in
     let c : act (offeredAt s a) (priorityAt s a) freshBuffer ≡ act block (o .priority) freshBuffer = rw w in
     let e : ltb (length l) mostBytes ≡ ltb (length freshBuffer) mostBytes = rw n in
-    let h = same-held x block (o .priority) l freshBuffer e in
-    let held : b ≡ actOf x block (o .priority) freshBuffer .held .bench = g .bench ∙ ap (λ (y : State). y .bench) h in
-    rw c (record {
-      leaves = record {
-        bench = held;
-        nameList = g .nameList ∙ ap (λ (y : State). y .lent .names) h;
-        countList = g .countList ∙ ap (λ (y : State). y .lent .counts) h;
-      };
-      line = rw held (acted-line r (actOf x block (o .priority) freshBuffer) block (o .priority) freshBuffer out
-          (g .answered ∙ same-reply x block (o .priority) l freshBuffer e));
+    let t : Step = actOf x block (o .priority) l in
+    let first : heldWith b ns cs ts ≡ t .held = rw (g .bench, g .nameList, g .countList, g .totalList) in
+    let held : heldWith b ns cs ts ≡ actOf x block (o .priority) freshBuffer .held =
+    first ∙ same-held x block (o .priority) l freshBuffer e in
+    rw (c, held) (record {
+      left = refl;
+      line = acted-line r (actOf x block (o .priority) freshBuffer) block (o .priority) freshBuffer out
+          (g .answered ∙ same-reply x block (o .priority) l freshBuffer e);
     })
 
 -- ---- what Open gave
@@ -158,7 +156,7 @@ is-not true false e = sym e
 is-not false true e = sym e
 is-not false false e = refl
 
-module _ (s : List ℕ) (l : Lent) (r : Start) (b : Bench) (ns cs : List ℕ) (g : OpenGives (openingOf s l) l r b ns cs) where
+module _ (s : List ℕ) (l : Lent) (r : Start) (b : Bench) (ns cs ts : List ℕ) (g : OpenGives (openingOf s l) l r b ns cs ts) where
   pub is-open : r ≡ starts.Done → false ≡ openRefuses s l
   is-open e = let d : done ≡ openingOf s l .reply = sym start-done ∙ ap startReply (sym e) ∙ g .answered in rw (← d)
 
@@ -196,11 +194,11 @@ module _ (s before : List ℕ) where
 
       pub text-whole : w ≡ false → (b : Bench) → b ≡ openingOf s freshLists .bench → (p : ℕ) (m : List ℕ)
           → Puts (firstLine (ownOf s) (benchesOf s)) 0 before p m
-          → (k : ℕ) → k ≡ eventsOf s → (c : Bench) (ns cs : List ℕ)
-          → Runs true s k (heldWith b (freshLists .names) (freshLists .counts)) p m c q ns cs after → WritesText s before q after
+          → (k : ℕ) → k ≡ eventsOf s → (y : State)
+          → Runs true s k (record { bench = b; lent = freshLists }) p m y q after → WritesText s before q after
       unfolding textOf openedText
-      text-whole g b o p m h k n c ns cs ran =
-          let lines : Puts (linesOf (heldWith b (freshLists .names) (freshLists .counts)) (callsOf s)) p m q after = rw n at (ran .lines) in
+      text-whole g b o p m h k n y ran =
+          let lines : Puts (linesOf (record { bench = b; lent = freshLists }) (callsOf s)) p m q after = rw n at (ran .lines) in
           text-is
           (rw (← t, e, is-not (isDone (openingOf s freshLists .reply)) true (sym u ∙ g))
           (puts-then (firstLine (ownOf s) (benchesOf s)) (linesOf (openedOn s freshLists) (callsOf s)) 0 before p m q after h

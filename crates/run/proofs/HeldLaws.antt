@@ -8,10 +8,7 @@ use lib.ListN.{length, length-append}
 use Rattle.message.specs.Numbers.{put}
 use Rattle.message.proofs.PartLaws.{put-nil, put-append}
 use Rattle.agreement.specs.Sets.{isYes}
-use Rattle.bench.specs.Calls.{Call, State, coreOf}
-use Rattle.bench.specs.Answers.{heldWith}
-use Rattle.calls.specs.Steps.{Leaves}
-use Rattle.bench.specs.Record.{Bench}
+use Rattle.bench.specs.Calls.{Call, State}
 use Rattle.demand.proofs.MachineLaws.{runs-nil, runs-cons, byValues}
 use Rattle.run.specs.declared.Answered.{Answered}
 use Rattle.demand.specs.Demand.{byValue, runs}
@@ -88,9 +85,6 @@ remains-next z r l p xs ys q m f g = record {
   whole = f .whole ∙ put-append l p xs ys ∙ rw (g .text, g .place);
 }
 
-pub leaves-state : (y : State) (b : Bench) (ns cs : List ℕ) → Leaves (coreOf y) b ns cs → heldWith b ns cs ≡ y
-leaves-state y b ns cs f = rw (f .bench, f .nameList, f .countList)
-
 -- nothing is left to write
 remains-none : (xs : List ℕ) (at : ℕ) (before text : List ℕ) (p : ℕ) (prints : Bool)
     → Remains (put before at xs) (at + length xs) text p (told prints []) → Puts xs at before p text
@@ -103,46 +97,44 @@ module _ (prints : Bool) (s : List ℕ) (k : ℕ) (x : State) (at : ℕ) (before
       let n : k - 0 ≡ k = omega arith in
       rw q (record { held = rw n; lines = rw n (record { place = refl; whole = refl }) })
 
-  module _ (i a : ℕ) (b : Bench) (ns cs : List ℕ) (p : ℕ) (text : List ℕ)
-      (left : Ahead prints s k x at before i a (heldWith b ns cs) p text) where
+  module _ (i a : ℕ) (y : State) (p : ℕ) (text : List ℕ) (rest : Ahead prints s k x at before i a y p text) where
     pub ahead-end : (room : LinesFit prints i p text) (e : ℕ) → k ≤ i → i ≤ k → k ≤ e → e ≤ mostEvents
-        → Runs prints s k x at before b p ns cs text
+        → Runs prints s k x at before y p text
     unfolding heldAfter linesOf callsFrom
     ahead-end room e h l f few =
         let n : k - i ≡ 0 = omega arith in
-        let g = rw n at (left .held) in
-        let t = rw n at (left .lines) in
+        let g = rw n at (rest .held) in
+        let t = rw n at (rest .lines) in
         record {
-          leaves = rw g (record { bench = refl; nameList = refl; countList = refl });
+          left = sym g;
           lines = remains-none (told prints (linesOf x (firstCalls s k))) at before text p prints t;
           short = λ u. let w = room .low u in omega arith;
         }
 
-    pub ahead-next : i < k → (r : Answered) (c : Bench) (ns′ cs′ : List ℕ) → EventGives (callAt s i a) (heldWith b ns cs) r c ns′ cs′
+    pub ahead-next : i < k → (r : Answered) (z : State) → EventGives (callAt s i a) y r z
         → (q : ℕ) (m : List ℕ)
-        → Puts (told prints (answerText (c .decided) (isYes (c .parted)) r)) p text q m → (w : ℕ) → w ≡ lengthAt s i
-        → Ahead prints s k x at before (i + 1) (a + w) (heldWith c ns′ cs′) q m
-    ahead-next more r c ns′ cs′ g q m f w long =
+        → Puts (told prints (answerText (z .bench .decided) (isYes (z .bench .parted)) r)) p text q m → (w : ℕ) → w ≡ lengthAt s i
+        → Ahead prints s k x at before (i + 1) (a + w) z q m
+    ahead-next more r z g q m f w long =
         let n : k - i - 1 ≡ k - (i + 1) = omega arith in
         let call = callAt s i a in
-        let rest = callsFrom s (i + 1) (a + lengthAt s i) (k - (i + 1)) in
-        let y = heldWith b ns cs in
-        let z = stepOf y call .held in
-        let here : callsFrom s i a (k - i) ≡ call ∷ rest = rw (calls-step s i a (k - i) (omega arith), n) in
+        let later = callsFrom s (i + 1) (a + lengthAt s i) (k - (i + 1)) in
+        let then = stepOf y call .held in
+        let here : callsFrom s i a (k - i) ≡ call ∷ later = rw (calls-step s i a (k - i) (omega arith), n) in
         let whole : told prints (linesOf y (callsFrom s i a (k - i))) ≡ told prints (lineOf call (stepOf y call)) ++ told prints
-        (linesOf z rest) =
-        rw (here, lines-step y call rest) (told-append prints (lineOf call (stepOf y call)) (linesOf z rest)) in
-        rw (long, leaves-state z c ns′ cs′ (g .leaves))
+        (linesOf then later) =
+        rw (here, lines-step y call later) (told-append prints (lineOf call (stepOf y call)) (linesOf then later)) in
+        rw (long, g .left)
         (record {
-          held = left .held ∙ ap (heldAfter y) here ∙ held-step y call rest;
-          lines = remains-next _ _ text p (told prints (lineOf call (stepOf y call))) (told prints (linesOf z rest)) q m
-              (rw whole at (left .lines)) (rw (g .line) at f);
+          held = rest .held ∙ ap (heldAfter y) here ∙ held-step y call later;
+          lines = remains-next _ _ text p (told prints (lineOf call (stepOf y call))) (told prints (linesOf then later)) q m
+              (rw whole at (rest .lines)) (rw (g .line) at f);
         })
 
 -- no lines were asked for: nothing is written
-pub silent : (s : List ℕ) (k : ℕ) (x : State) (before : List ℕ) (b : Bench) (r : ℕ) (ns cs after : List ℕ)
-    → Runs false s k x 0 before b r ns cs after → after ≡ before
-silent s k x before b r ns cs after f = f .lines .text ∙ put-nil before 0
+pub silent : (s : List ℕ) (k : ℕ) (x : State) (before : List ℕ) (y : State) (r : ℕ) (after : List ℕ)
+    → Runs false s k x 0 before y r after → after ≡ before
+silent s k x before y r after f = f .lines .text ∙ put-nil before 0
 
 -- ---- where a body starts
 

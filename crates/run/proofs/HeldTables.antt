@@ -1,4 +1,5 @@
--- The messages that the acts of document 01's sample roll made, and what its bench holds between the calls, computed. Assumes nothing.
+-- The messages that the acts of document 01's sample roll made, what its bench holds between the calls, and where an entry then stands,
+-- computed. Assumes nothing.
 use Prim.Native.Nat.{ℕ}
 use native.Mathlib.Omega.{arith}
 use mathlib.Core.List.{List, [], _∷_, _++_, map}
@@ -22,16 +23,18 @@ use Rattle.agreement.specs.Kept.{keptProposal}
 use Rattle.agreement.specs.Heard.{voteAmong}
 use Rattle.agreement.specs.Tally.{supportersOf}
 use Rattle.agreement.specs.declared.Grade.the-variants.{Longest}
+use Rattle.bench.specs.Totals.{totalsFrom, unlike, sumOf, blockHolding, insideBlock}
 use Rattle.bench.specs.Acts.{propose, vote, makes}
 use Rattle.bench.specs.Record.{agreementOf, proposalsOf, withAgreement, anyPlace, beyondAgreement, beyondProposals, beyond}
 use Rattle.bench.specs.ByRecord.{openOf, beginOf, keptAgreement, keptProposals, receiveOf, actOf, actedOf, usedOf, settled, snappedBy}
-use Rattle.bench.specs.ByRecord.{changed, fileMessage}
+use Rattle.bench.specs.ByRecord.{changed, fileMessage, findOf}
 use Rattle.bench.specs.Support.{agreementBefore}
 use Rattle.run.specs.Roll.{freshBuffer, rightBody, wrongMark, misfits, misshapen, callAt, callsFrom}
 use Rattle.run.specs.RollText.{freshLists}
 use Rattle.run.specs.Held.{heldAfter, bodyFrom, heldAt}
 use Rattle.run.specs.Page.{flagsFrom, headBytes, setsBytes, slotBytes, readBytes, pageBytes, Shows}
 use Rattle.run.specs.MadeBytes.{noAct, madeOn, madeOf}
+use Rattle.run.specs.EntryBytes.{entryBytes, entryOf}
 use Rattle.run.proofs.RollTables.{sampleRoll}
 
 -- ---- what the acts made
@@ -56,7 +59,7 @@ unfolding
     bestOf gradeAmong
     fileOf overlong maySupport supports hasGrade under prefixes candidates reading.longer longestOf longest weigh member adding removing
     logAt messageBytes
-    bytesOf part put numberAt numbersAt bytesFor bytesForEach isPrefix sameLog inStep namesOf countsOf
+    bytesOf part put numberAt numbersAt bytesFor bytesForEach isPrefix sameLog inStep namesOf countsOf totalsFrom unlike
 sample-made = refl
 
 -- ---- the page
@@ -86,7 +89,7 @@ unfolding
     bestOf gradeAmong
     fileOf overlong maySupport supports hasGrade under prefixes candidates reading.longer longestOf longest weigh member adding removing
     logAt messageBytes
-    bytesOf part put numberAt numbersAt bytesFor bytesForEach isPrefix sameLog inStep namesOf countsOf
+    bytesOf part put numberAt numbersAt bytesFor bytesForEach isPrefix sameLog inStep namesOf countsOf totalsFrom unlike
     flagsFrom headBytes setsBytes slotBytes readBytes pageBytes agreementBefore supportersOf
 sample-page = record {
   count = record { grade = Longest 0 1; supporters = 1; senders = 1 };
@@ -99,3 +102,19 @@ sample-page = record {
   };
   page = refl;
 }
+
+-- ---- an entry: the last act decides one block of one entry
+
+pub sample-entry : entryBytes (entryOf sampleRoll 13 0) ∷ entryBytes (entryOf sampleRoll 14 0) ∷ entryBytes (entryOf sampleRoll 14 1) ∷ []
+    ≡ (23 ∷ []) ∷ (0 ∷ 0 ∷ 0 ∷ []) ∷ (23 ∷ []) ∷ []
+unfolding
+    heldAfter callAt callsFrom numberIn openOf
+    beginOf receiveOf judgedBy firstFailure malformed meaningIn choice.anyOf actOf actedOf changed snappedBy settled usedOf fileMessage
+    keptAgreement keptProposals agreementOf
+    proposalsOf withAgreement anyPlace beyondAgreement beyondProposals beyond propose vote makes voteAmong keptProposal fileProposalOf
+    bestOf gradeAmong
+    fileOf overlong maySupport supports hasGrade under prefixes candidates reading.longer longestOf longest weigh member adding removing
+    logAt messageBytes
+    bytesOf part put numberAt numbersAt bytesFor bytesForEach isPrefix sameLog inStep namesOf countsOf totalsFrom unlike
+    findOf sumOf blockHolding insideBlock
+sample-entry = refl

@@ -10,4 +10,5 @@ pub mod RollTables
 -- What is held between a roll's calls:
 pub mod MadeLaws
 pub mod PageLaws
+pub mod EntryLaws
 pub mod HeldTables

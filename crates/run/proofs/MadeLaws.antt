@@ -15,12 +15,11 @@ use Rattle.message.proofs.TestLaws.{or-false, or-true}
 use Rattle.message.proofs.Acceptance.{length-blocks}
 use Rattle.message.proofs.WrittenFields.{length-message}
 use Rattle.bench.specs.Layout.{mostBytes, Lent}
-use Rattle.bench.specs.Calls.{Reply, refused, done, took, acted, State, coreOf}
+use Rattle.bench.specs.Calls.{Reply, refused, done, took, acted, found, State}
 use Rattle.bench.specs.Acts.{outAfter}
 use Rattle.bench.specs.Record.{Bench}
 use Rattle.bench.specs.ByRecord.{actOf}
-use Rattle.bench.specs.Answers.{heldWith, contentMade, madeReply, ActGives}
-use Rattle.calls.specs.Steps.{Leaves}
+use Rattle.bench.specs.Answers.{contentMade, madeReply, ActGives}
 use Rattle.bench.specs.declared.Made.{Made}
 use Rattle.bench.specs.declared.Made.the-variants as makings
 use Rattle.bench.proofs.Buffer.{madeIn, act-out, out-made, same-reply}
@@ -31,7 +30,7 @@ use Rattle.run.specs.RollText.{freshLists, stepOf}
 use Rattle.run.specs.RollSteps.{Shaped, offerAt, lengthFor, noneMade, Runs}
 use Rattle.run.specs.Held.{heldAfter, firstCalls, bodyPlace, openingOf, openedOn, openRefuses}
 use Rattle.run.specs.MadeBytes.{madeBy, noAct, actAfter, madeOn, madeOf, madeLength, GivesMade}
-use Rattle.run.proofs.HeldLaws.{leaves-state, silent}
+use Rattle.run.proofs.HeldLaws.{silent}
 use Rattle.run.proofs.RollForm.{shaped}
 
 -- ---- which events are no Act
@@ -80,6 +79,7 @@ made-same (refused number) = refl
 made-same done = refl
 made-same (took w) = refl
 made-same (acted m) = refl
+made-same (found block inside) = refl
 
 module _ (x : State) (block : Block) (priority : ℕ) (out : List ℕ) where
   made-fits : (r : Reply) → actOf x block priority out .answer .reply ≡ r
@@ -87,16 +87,17 @@ module _ (x : State) (block : Block) (priority : ℕ) (out : List ℕ) where
   made-fits (refused number) e = omega arith
   made-fits done e = omega arith
   made-fits (took w) e = omega arith
+  made-fits (found block inside) e = omega arith
   made-fits (acted none) e = omega arith
   made-fits (acted (some m)) e =
       let l = ap length (out-made x block priority out m e) in
       let n = length-append (bytesOf m) (drop (length (bytesOf m)) out) in
       omega arith
 
-  act-gives : (r : Made) (b : Bench) (ns cs after : List ℕ) (n : ℕ) → ActGives (actOf x block priority out) r b ns cs after
+  act-gives : (r : Made) (b : Bench) (ns cs ts after : List ℕ) (n : ℕ) → ActGives (actOf x block priority out) r b ns cs ts after
       → n ≡ lengthFor r
       → GivesMade (madeBy (actOf x block priority out .answer .reply)) out n after
-  act-gives r b ns cs after n g e =
+  act-gives r b ns cs ts after n g e =
       let a : n ≡ madeLength (madeBy (actOf x block priority out .answer .reply)) =
       e ∙ length-answer after r ∙ ap (λ (p : Reply). madeLength (madeBy p)) (g .answered) in
       record {
@@ -106,12 +107,12 @@ module _ (x : State) (block : Block) (priority : ℕ) (out : List ℕ) where
             ∙ ap (λ (o : Option Meaning). outAfter o out) (made-same (actOf x block priority out .answer .reply));
       }
 
-pub act-makes : (s : List ℕ) (a : ℕ) (x : State) (out : List ℕ) (o : Offer) (r : Made) (b : Bench) (ns cs after : List ℕ) (n : ℕ)
+pub act-makes : (s : List ℕ) (a : ℕ) (x : State) (out : List ℕ) (o : Offer) (r : Made) (b : Bench) (ns cs ts after : List ℕ) (n : ℕ)
     → o ≡ offerAt s a
-    → ActGives (actOf x (record { name = o .name; count = o .count }) (o .priority) out) r b ns cs after → n ≡ lengthFor r
+    → ActGives (actOf x (record { name = o .name; count = o .count }) (o .priority) out) r b ns cs ts after → n ≡ lengthFor r
     → GivesMade (madeBy (actOf x (offeredAt s a) (priorityAt s a) out .answer .reply)) out n after
 unfolding offerAt
-act-makes s a x out o r b ns cs after n q g e = act-gives x (offeredAt s a) (priorityAt s a) out r b ns cs after n (rw q at g) e
+act-makes s a x out o r b ns cs ts after n q g e = act-gives x (offeredAt s a) (priorityAt s a) out r b ns cs ts after n (rw q at g) e
 
 pub made-as-said : (x : State) (s : List ℕ) (k : ℕ) (out : List ℕ) → kindAt s k ≡ actKind → mostBytes ≤ length out
     → actAfter x s k out .answer .reply ≡ stepOf (heldAfter x (firstCalls s k)) (callAt s k (bodyPlace s k)) .answer .reply
@@ -123,13 +124,13 @@ made-as-said x s k out e h =
 -- ---- the calls before it
 
 made-after : (s : List ℕ) (l : Lent) (k : ℕ) (out : List ℕ) (at : ℕ) → at ≡ bodyPlace s k → (o : Bench) → o ≡ openingOf s l .bench
-    → (b : Bench) (ns cs : List ℕ) → Leaves (coreOf (heldAfter (heldWith o (l .names) (l .counts)) (firstCalls s k))) b ns cs
+    → (y : State) → y ≡ heldAfter (record { bench = o; lent = l }) (firstCalls s k)
     → (n : ℕ) (after : List ℕ)
-    → GivesMade (madeBy (actOf (heldWith b ns cs) (offeredAt s at) (priorityAt s at) out .answer .reply)) out n after
+    → GivesMade (madeBy (actOf y (offeredAt s at) (priorityAt s at) out .answer .reply)) out n after
     → GivesMade (madeBy (actAfter (openedOn s l) s k out .answer .reply)) out n after
-made-after s l k out at p o e b ns cs f n after g =
-    let h : Leaves (coreOf (heldAfter (openedOn s l) (firstCalls s k))) b ns cs = rw e at f in
-    rw (leaves-state (heldAfter (openedOn s l) (firstCalls s k)) b ns cs h, p) at g
+made-after s l k out at p o e y f n after g =
+    let h : y ≡ heldAfter (openedOn s l) (firstCalls s k) = rw e at f in
+    rw (h, p) at g
 
 -- ---- of a whole roll
 
@@ -173,11 +174,11 @@ module _ (s : List ℕ) (k : ℕ) (v : Bool) (t : v ≡ noneMade s k freshLists)
         omega arith
 
   pub made-whole : (out : List ℕ) → v ≡ false → (at : ℕ) → at ≡ bodyPlace s k → (o : Bench) → o ≡ openingOf s freshLists .bench
-      → (b : Bench) (q : ℕ) (ns cs mid : List ℕ) → Runs false s k (heldWith o (freshLists .names) (freshLists .counts)) 0 out b q ns cs mid
+      → (y : State) (q : ℕ) (mid : List ℕ) → Runs false s k (record { bench = o; lent = freshLists }) 0 out y q mid
       → (n : ℕ) (after : List ℕ)
-      → GivesMade (madeBy (actOf (heldWith b ns cs) (offeredAt s at) (priorityAt s at) mid .answer .reply)) mid n after
+      → GivesMade (madeBy (actOf y (offeredAt s at) (priorityAt s at) mid .answer .reply)) mid n after
       → GivesMade (madeOf s k out) out n after
-  made-whole out e at p o h b q ns cs mid f n after g =
+  made-whole out e at p o h y q mid f n after g =
       rw (made-is out, ← t, e)
-      (made-after s freshLists k out at p o h b ns cs (f .leaves) n after
-      (rw (silent s k (heldWith o (freshLists .names) (freshLists .counts)) out b q ns cs mid f) at g))
+      (made-after s freshLists k out at p o h y (f .left) n after
+      (rw (silent s k (record { bench = o; lent = freshLists }) out y q mid f) at g))

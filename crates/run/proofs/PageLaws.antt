@@ -17,19 +17,17 @@ use Rattle.agreement.specs.declared.Grade.{Grade}
 use Rattle.agreement.specs.declared.Grade.the-variants.{Longest, Nothing}
 use Rattle.bench.specs.Layout.{Lent}
 use Rattle.bench.specs.Calendar.{Act}
-use Rattle.bench.specs.Calls.{Core, coreOf}
-use Rattle.bench.specs.Answers.{heldWith}
+use Rattle.bench.specs.Calls.{Core, State}
 use Rattle.bench.specs.Support.{SupportGives}
-use Rattle.calls.specs.Steps.{Leaves}
 use Rattle.bench.specs.Record.{Bench}
 use Rattle.bench.specs.declared.Counted.{Counted}
 use Rattle.run.specs.Roll.{eventsOf, misshapen}
 use Rattle.run.specs.RollSteps.{Puts, Shaped, Few, Runs}
-use Rattle.run.specs.Held.{heldAfter, firstCalls, openingOf, openRefuses, heldAt}
+use Rattle.run.specs.Held.{heldAfter, firstCalls, openingOf, openRefuses, heldAt, scant, tooFew, nothingShown}
 use Rattle.run.specs.Page.{flag, flagsFrom, setBytes, headBytes, setsBytes, slotBytes, gradeBytes, readBytes, pageBytes, pageLength}
-use Rattle.run.specs.Page.{ReadsNow, GivesPage, scantPage, tooFew, noPage}
+use Rattle.run.specs.Page.{ReadsNow, GivesPage, noPage}
 use Rattle.run.proofs.TextLaws.{puts-then, puts-three}
-use Rattle.run.proofs.HeldLaws.{leaves-state, silent}
+use Rattle.run.proofs.HeldLaws.{silent}
 use Rattle.run.proofs.RollForm.{shaped}
 
 -- ---- a set
@@ -145,79 +143,76 @@ page-length b c = simp (length-append, slot-length, grade-length)
 
 -- ---- the calls before it
 
-page-given : (s : List ℕ) (l : Lent) (k : ℕ) (o : Bench) → o ≡ openingOf s l .bench → (b : Bench) (ns cs : List ℕ)
-    → Leaves (coreOf (heldAfter (heldWith o (l .names) (l .counts)) (firstCalls s k))) b ns cs → (c : Counted)
-    → ReadsNow (heldWith b ns cs) c
-    → (before : List ℕ) (r : ℕ) (after : List ℕ) → Puts (pageBytes b c) 0 before r after
-    → GivesPage false (heldAt s l k) l before r ns cs after
-page-given s l k o e b ns cs f c g before r after p =
-    let h : Leaves (coreOf (heldAt s l k)) b ns cs = rw e at f in
+page-given : (s : List ℕ) (l : Lent) (k : ℕ) (o : Bench) → o ≡ openingOf s l .bench → (y : State)
+    → y ≡ heldAfter (record { bench = o; lent = l }) (firstCalls s k) → (c : Counted) → ReadsNow y c
+    → (before : List ℕ) (r : ℕ) (after : List ℕ) → Puts (pageBytes (y .bench) c) 0 before r after
+    → GivesPage false (heldAt s l k) l before r (y .lent .names) (y .lent .counts) after
+page-given s l k o e y f c g before r after p =
+    let h : y ≡ heldAt s l k = rw e at f in
     record {
-      answered = let n = page-length b c in p .place ∙ omega arith;
-      nameList = h .nameList;
-      countList = h .countList;
+      answered = let n = page-length (y .bench) c in p .place ∙ omega arith;
+      nameList = ap (λ (x : State). x .lent .names) h;
+      countList = ap (λ (x : State). x .lent .counts) h;
       kept = λ e. let z : _≡_ {A = ℕ} 0 1 = cc in absurd (omega arith);
-      shown = λ e. record {
-        count = c;
-        reads = rw (← leaves-state (heldAt s l k) b ns cs h) g;
-        page = rw (h .bench) at (p .text);
-      };
+      shown = λ e. record { count = c; reads = rw h at g; page = rw h at (p .text) };
     }
 
 -- ---- whether there is one
 
-module _ (s : List ℕ) (k : ℕ) (l : Lent) (before : List ℕ) where
-  pub page-scant : length before < pageLength → true ≡ noPage s k l before
-  unfolding noPage
-  page-scant h = rw (lt-ltb (length before) pageLength h)
+module _ (least : ℕ) (s : List ℕ) (k : ℕ) (l : Lent) (before : List ℕ) where
+  pub shown-scant : length before < least → true ≡ nothingShown least s k l before
+  unfolding nothingShown
+  shown-scant h = rw (lt-ltb (length before) least h)
 
   module _ (v : Bool) (t : v ≡ misshapen s) where
-    pub page-no-roll : v ≡ true → true ≡ noPage s k l before
-    unfolding noPage
-    page-no-roll e = sym (rw (← t, e) (or-true (scantPage before)))
+    pub shown-no-roll : v ≡ true → true ≡ nothingShown least s k l before
+    unfolding nothingShown
+    shown-no-roll e = sym (rw (← t, e) (or-true (scant least before)))
 
     module _ (e : ℕ) (q : e ≡ eventsOf s) where
-      pub page-few : e < k → true ≡ noPage s k l before
-      unfolding noPage
-      page-few h = sym (rw (lt-ltb (eventsOf s) k (omega arith), or-true (misshapen s)) (or-true (scantPage before)))
+      pub shown-few : e < k → true ≡ nothingShown least s k l before
+      unfolding nothingShown
+      shown-few h = sym (rw (lt-ltb (eventsOf s) k (omega arith), or-true (misshapen s)) (or-true (scant least before)))
 
-      pub page-shut : pageLength ≤ length before → v ≡ false → k ≤ e → (w : Bool) → w ≡ openRefuses s l → w ≡ noPage s k l before
-      unfolding noPage
-      page-shut h f i w g = rw (le-ltb (length before) pageLength h, ← t, f, le-ltb (eventsOf s) k (omega arith)) g
+      pub shown-shut : least ≤ length before → v ≡ false → k ≤ e → (w : Bool) → w ≡ openRefuses s l → w ≡ nothingShown least s k l before
+      unfolding nothingShown
+      shown-shut h f i w g = rw (le-ltb (length before) least h, ← t, f, le-ltb (eventsOf s) k (omega arith)) g
 
-  module _ (v : Bool) (t : v ≡ noPage s k l before) where
-    pub page-none : v ≡ true → GivesPage (noPage s k l before) (heldAt s l k) l before 0 (l .names) (l .counts) before
-    page-none e =
-        let f = sym t ∙ e in
-        record {
-          answered = rw f;
-          nameList = rw f;
-          countList = rw f;
-          kept = λ g. refl;
-          shown = λ g. let z : _≡_ {A = ℕ} 0 1 = cc in absurd (omega arith);
-        }
+  module _ (v : Bool) (t : v ≡ nothingShown least s k l before) (e : v ≡ false) where
+    within : (scant least before ≡ false) × ((misshapen s || (tooFew s k || openRefuses s l)) ≡ false)
+    unfolding nothingShown
+    within = or-false (scant least before) (misshapen s || (tooFew s k || openRefuses s l)) (sym t ∙ e)
 
-    module _ (e : v ≡ false) where
-      within : (scantPage before ≡ false) × ((misshapen s || (tooFew s k || openRefuses s l)) ≡ false)
-      unfolding noPage
-      within = or-false (scantPage before) (misshapen s || (tooFew s k || openRefuses s l)) (sym t ∙ e)
+    pub shown-room : least ≤ length before
+    shown-room = ltb-false (length before) least (within .0)
 
-      pub page-room : pageLength ≤ length before
-      page-room = ltb-false (length before) pageLength (within .0)
+    pub shown-shaped : Shaped s
+    shown-shaped = shaped s (misshapen s) refl (or-false (misshapen s) (tooFew s k || openRefuses s l) (within .1) .0)
 
-      pub page-shaped : Shaped s
-      page-shaped = shaped s (misshapen s) refl (or-false (misshapen s) (tooFew s k || openRefuses s l) (within .1) .0)
+    pub shown-calls : k ≤ eventsOf s
+    shown-calls =
+        let rest = or-false (misshapen s) (tooFew s k || openRefuses s l) (within .1) .1 in
+        ltb-false (eventsOf s) k (or-false (tooFew s k) (openRefuses s l) rest .0)
 
-      pub page-calls : k ≤ eventsOf s
-      page-calls =
-          let rest = or-false (misshapen s) (tooFew s k || openRefuses s l) (within .1) .1 in
-          ltb-false (eventsOf s) k (or-false (tooFew s k) (openRefuses s l) rest .0)
+-- ---- the promise
 
-    pub page-whole : v ≡ false → (o : Bench) → o ≡ openingOf s l .bench → (b : Bench) (q : ℕ) (ns cs mid : List ℕ)
-        → Runs false s k (heldWith o (l .names) (l .counts)) 0 before b q ns cs mid → (c : Counted) → ReadsNow (heldWith b ns cs) c
-        → (r : ℕ) (after : List ℕ) → Puts (pageBytes b c) 0 mid r after
-        → GivesPage (noPage s k l before) (heldAt s l k) l before r ns cs after
-    page-whole e o h b q ns cs mid f c g r after p =
-        rw (← t, e)
-        (page-given s l k o h b ns cs (f .leaves) c g before r after
-        (rw (silent s k (heldWith o (l .names) (l .counts)) before b q ns cs mid f) at p))
+module _ (s : List ℕ) (k : ℕ) (l : Lent) (before : List ℕ) (v : Bool) (t : v ≡ noPage s k l before) where
+  pub page-none : v ≡ true → GivesPage (noPage s k l before) (heldAt s l k) l before 0 (l .names) (l .counts) before
+  page-none e =
+      let f = sym t ∙ e in
+      record {
+        answered = rw f;
+        nameList = rw f;
+        countList = rw f;
+        kept = λ g. refl;
+        shown = λ g. let z : _≡_ {A = ℕ} 0 1 = cc in absurd (omega arith);
+      }
+
+  pub page-whole : v ≡ false → (o : Bench) → o ≡ openingOf s l .bench → (y : State) (q : ℕ) (mid : List ℕ)
+      → Runs false s k (record { bench = o; lent = l }) 0 before y q mid → (c : Counted) → ReadsNow y c
+      → (r : ℕ) (after : List ℕ) → Puts (pageBytes (y .bench) c) 0 mid r after
+      → GivesPage (noPage s k l before) (heldAt s l k) l before r (y .lent .names) (y .lent .counts) after
+  page-whole e o h y q mid f c g r after p =
+      rw (← t, e)
+      (page-given s l k o h y (f .left) c g before r after
+      (rw (silent s k (record { bench = o; lent = l }) before y q mid f) at p))

@@ -1,13 +1,14 @@
 -- The lines of a roll are those worked out from its calls: the answers by the rules, D and the mark by the decisions. So what the lent
--- lists hold at first shows nowhere. Assumes nothing.
+-- lists hold at first shows nowhere. So is where an entry stands. Assumes nothing.
 use Prim.Native.Nat.{ℕ, zero, suc, _+_, _^_, _<_}
 use native.Mathlib.Omega.{arith}
 use mathlib.Core.List.{List, [], _∷_, _++_}
 use mathlib.Core.Bool.{true, false}
-use mathlib.Core.Path.{_≡_, refl, sym, ap, _∙_}
+use mathlib.Core.Path.{_≡_, refl, sym, ap, subst, _∙_}
 use lib.Dec.{eqb}
 use lib.ListN.{length, take, drop, length-take, length-drop, length-replicate}
 use lib.Seq.{getD-drop}
+use Rattle.message.specs.Limits.{mostBlocks}
 use Rattle.message.specs.Numbers.{AllBelow, numberIn}
 use Rattle.message.proofs.TestLaws.{either}
 use Rattle.message.proofs.PartLaws.{zeros-below}
@@ -15,14 +16,17 @@ use Rattle.message.proofs.NumberLaws.{number-in-below}
 use Rattle.message.proofs.ListedLaws.{length-at}
 use Rattle.bench.specs.Terms.{Terms, nothingStands, seatOf}
 use Rattle.bench.specs.Layout.{mostBytes, decidedPlace, leastLent}
-use Rattle.bench.specs.Calls.{Call, Answer, Reply, refused, done, took, acted, State, Opening, Typed, AllTyped}
+use Rattle.bench.specs.Calls.{Call, Answer, Reply, refused, done, took, acted, found, State, Opening, Typed, AllTyped, find}
 use Rattle.bench.specs.Acts.{Stand}
-use Rattle.bench.specs.History.{History, fresh, step, standIn}
+use Rattle.bench.specs.History.{History, fresh, step, standIn, answer, afterFrom, after}
 use Rattle.bench.specs.ByRecord.{openOf, standing}
+use Rattle.bench.proofs.HistoryLaws.{afterFrom-nil, afterFrom-cons, after-from}
 use Rattle.demand.specs.Demand.{byValue, OpenedAs}
 use Rattle.demand.specs.TheBench.{theBench}
 use Rattle.run.specs.Roll.{benchesOf, ownOf, eventsOf, bodiesPlace, misshapen, markPlace, kindAt, lengthAt, beginKind, receiveKind}
 use Rattle.run.specs.Roll.{callAt, callsFrom, callsOf}
+use Rattle.run.specs.Held.{heldAfter, firstCalls}
+use Rattle.run.specs.EntryBytes.{entryOf}
 use Rattle.run.specs.RollText.{termsOf, stepOf, linesOf, linesBy, firstLine, isDone, openedText, freshLists, textOf}
 use Rattle.demand.proofs.TheDemand.{bench-simulates}
 
@@ -54,6 +58,24 @@ module _ (T : Terms) (own : ℕ) where
       → linesOf x cs ≡ linesOf y cs
   any-lists x y cs o q t = lines-worked-out x cs o t ∙ sym (lines-worked-out y cs q t)
 
+  held-along : (x : State) (p : History) (cs : List Call) → bench-simulates .Rel (seatOf T own) x p → AllTyped cs
+      → bench-simulates .Rel (seatOf T own) (heldAfter x cs) (afterFrom (seatOf T own) p cs)
+  unfolding heldAfter
+  held-along x p [] r t = subst (bench-simulates .Rel (seatOf T own) x) (sym (afterFrom-nil (seatOf T own) p)) r
+  held-along x p (c ∷ cs) r t =
+      subst (bench-simulates .Rel (seatOf T own) (heldAfter x (c ∷ cs))) (sym (afterFrom-cons (seatOf T own) p c cs))
+      (held-along (stepOf x c .held) (step (seatOf T own) p c) cs
+      (bench-simulates .keeps (seatOf T own) byValue x p c r (t .0)) (t .1))
+
+  -- a call after a list of calls answers what the history says
+  answer-after : (x : State) (cs : List Call) (c : Call) → OpenedAs theBench T own x → AllTyped cs → Typed c
+      → stepOf (heldAfter x cs) c .answer ≡ answer (seatOf T own) (after (seatOf T own) cs) c
+  answer-after x cs c o t u =
+      let S = seatOf T own in
+      let r = subst (bench-simulates .Rel S (heldAfter x cs)) (sym (after-from S cs))
+      (held-along x (fresh S) cs (bench-simulates .opens T own x o) t) in
+      bench-simulates .same-answer S byValue (heldAfter x cs) (after S cs) c r u
+
 -- ---- of a whole roll
 
 take-below : (B k : ℕ) (l : List ℕ) → 0 < B → AllBelow B l → AllBelow B (take k l)
@@ -70,6 +92,7 @@ is-done (refused k) e = let z : _≡_ {A = ℕ} 0 1 = cc in absurd (omega arith)
 is-done done e = refl
 is-done (took w) e = let z : _≡_ {A = ℕ} 0 1 = cc in absurd (omega arith)
 is-done (acted made) e = let z : _≡_ {A = ℕ} 0 1 = cc in absurd (omega arith)
+is-done (found block inside) e = let z : _≡_ {A = ℕ} 0 1 = cc in absurd (omega arith)
 
 module _ (s : List ℕ) (bytes : AllBelow 256 s) where
   number-fits : (w a : ℕ) → numberIn w s a < 256 ^ w
@@ -107,6 +130,7 @@ module _ (s : List ℕ) (bytes : AllBelow 256 s) where
       own-fits = bytes 1;
       names = (zeros-below (2 ^ 64) leastLent (omega arith), omega (arith, length-replicate {A = ℕ} leastLent 0));
       counts = (zeros-below (2 ^ 16) leastLent (omega arith), omega (arith, length-replicate {A = ℕ} leastLent 0));
+      totals = (zeros-below (2 ^ 32) mostBlocks (omega arith), omega (arith, length-replicate {A = ℕ} mostBlocks 0));
     };
     given = done-gives (openOf (benchesOf s) (ownOf s) freshLists) e;
   }
@@ -126,3 +150,12 @@ module _ (s : List ℕ) (bytes : AllBelow 256 s) where
             (record { bench = openOf (benchesOf s) (ownOf s) freshLists .bench; lent = freshLists }) (callsOf s) (opened-so d)
             (calls-typed 0 (bodiesPlace s) (eventsOf s)),
       )
+
+  -- where an entry stands is what the decisions of the first k calls say
+  pub entry-worked-out : isDone (openOf (benchesOf s) (ownOf s) freshLists .reply) ≡ true → (k e : ℕ) → Typed (find e)
+      → entryOf s k e
+      ≡ answer (seatOf (termsOf s) (ownOf s)) (after (seatOf (termsOf s) (ownOf s)) (firstCalls s k)) (find e) .reply
+  entry-worked-out d k e t =
+      ap (λ (a : Answer). a .reply)
+      (answer-after (termsOf s) (ownOf s) (record { bench = openOf (benchesOf s) (ownOf s) freshLists .bench; lent = freshLists })
+      (firstCalls s k) (find e) (opened-so d) (calls-typed 0 (bodiesPlace s) k) t)

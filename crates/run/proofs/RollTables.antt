@@ -27,6 +27,7 @@ use Rattle.agreement.specs.Grades.{gradeAmong}
 use Rattle.agreement.specs.Proposals.{fileProposalOf, bestOf}
 use Rattle.agreement.specs.Kept.{keptProposal}
 use Rattle.agreement.specs.Heard.{voteAmong}
+use Rattle.bench.specs.Totals.{totalsFrom, unlike}
 use Rattle.bench.specs.Acts.{propose, vote, makes}
 use Rattle.bench.specs.Calls.{Call, begin, receive, act, Reply, refused, done, took, acted}
 use Rattle.bench.specs.Record.{agreementOf, proposalsOf, withAgreement, anyPlace, beyondAgreement, beyondProposals, beyond}
@@ -187,5 +188,5 @@ unfolding
     bestOf gradeAmong
     fileOf overlong maySupport supports hasGrade under prefixes candidates reading.longer longestOf longest weigh member adding removing
     logAt messageBytes
-    bytesOf part put numberAt numbersAt bytesFor bytesForEach isPrefix sameLog inStep namesOf countsOf
+    bytesOf part put numberAt numbersAt bytesFor bytesForEach isPrefix sameLog inStep namesOf countsOf totalsFrom unlike
 sample = refl

@@ -1,11 +1,13 @@
 -- What a bench holds after some of the calls of a roll. Assumes nothing.
 use Prim.Native.Nat.{ℕ, zero, suc, _+_}
-use mathlib.Core.Bool.{Bool, not}
+use mathlib.Core.Bool.{Bool, not, _||_}
 use mathlib.Core.List.{List, [], _∷_}
+use lib.Dec.{ltb}
+use lib.ListN.{length}
 use Rattle.bench.specs.Layout.{Lent}
 use Rattle.bench.specs.Calls.{Call, State, Opening}
 use Rattle.bench.specs.ByRecord.{openOf}
-use Rattle.run.specs.Roll.{benchesOf, ownOf, lengthAt, bodiesPlace, callsFrom}
+use Rattle.run.specs.Roll.{benchesOf, ownOf, eventsOf, lengthAt, bodiesPlace, misshapen, callsFrom}
 use Rattle.run.specs.RollText.{stepOf, isDone}
 
 -- what is held after these calls, each getting what the last one left: what demand 3 is proved of (HeldLaws: held-runs)
@@ -42,3 +44,17 @@ openedOn s l = record { bench = openingOf s l .bench; lent = l }
 -- and after the first k calls
 abbrev pub heldAt : List ℕ → Lent → ℕ → State
 heldAt s l k = heldAfter (openedOn s l) (firstCalls s k)
+
+-- ---- where nothing of it is shown
+
+-- the buffer has fewer bytes than are needed
+abbrev pub scant : ℕ → List ℕ → Bool
+scant least buffer = ltb (length buffer) least
+
+-- the roll has fewer calls
+abbrev pub tooFew : List ℕ → ℕ → Bool
+tooFew s k = ltb (eventsOf s) k
+
+-- one of these, or the roll has another form, or Open refuses
+unfoldable pub nothingShown : ℕ → List ℕ → ℕ → Lent → List ℕ → Bool
+nothingShown least s k l buffer = scant least buffer || (misshapen s || (tooFew s k || openRefuses s l))

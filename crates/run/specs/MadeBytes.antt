@@ -9,7 +9,7 @@ use lib.ListN.{length}
 use Rattle.message.specs.Choice.{pick}
 use Rattle.message.specs.Message.{Meaning, bytesOf}
 use Rattle.bench.specs.Layout.{Lent}
-use Rattle.bench.specs.Calls.{Reply, refused, done, took, acted, State, Step}
+use Rattle.bench.specs.Calls.{Reply, refused, done, took, acted, found, State, Step}
 use Rattle.bench.specs.Acts.{outAfter}
 use Rattle.bench.specs.ByRecord.{actOf}
 use Rattle.run.specs.Roll.{eventsOf, kindAt, actKind, misshapen, offeredAt, priorityAt}
@@ -22,6 +22,7 @@ madeBy (refused number) = none
 madeBy done = none
 madeBy (took w) = none
 madeBy (acted m) = m
+madeBy (found block inside) = none
 
 -- there is no event k, or it is no Act
 unfoldable pub noAct : List ℕ → ℕ → Bool

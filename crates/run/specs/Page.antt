@@ -1,11 +1,9 @@
 -- The page of a roll: what its bench holds after the first calls, as bytes for a tool that shows it (document 01, "Counting in one
 -- agreement" and "Calendar of acts"). Assumes nothing.
 use Prim.Native.Nat.{ℕ, zero, suc, _+_}
-use mathlib.Core.Bool.{Bool, true, false, _||_}
+use mathlib.Core.Bool.{Bool, true, false}
 use mathlib.Core.List.{List, [], _∷_, _++_}
 use mathlib.Core.Path.{_≡_}
-use lib.Dec.{ltb}
-use lib.ListN.{length}
 use Rattle.message.specs.Choice.{pick}
 use Rattle.message.specs.Numbers.{part, put, bytesFor}
 use Rattle.agreement.specs.Limits.{mostSenders}
@@ -19,8 +17,7 @@ use Rattle.bench.specs.Calls.{State, coreOf}
 use Rattle.bench.specs.Record.{beatOf, Bench}
 use Rattle.bench.specs.Support.{SupportGives}
 use Rattle.bench.specs.declared.Counted.{Counted}
-use Rattle.run.specs.Roll.{eventsOf, misshapen}
-use Rattle.run.specs.Held.{openRefuses}
+use Rattle.run.specs.Held.{nothingShown}
 
 -- ---- an agreement, 166 bytes; a byte is 1 for yes and 0 for no
 
@@ -83,7 +80,7 @@ pub record Shows (x : State) (before after : List ℕ) : Type 0 where
   pub reads : ReadsNow x count
   pub page : after ≡ put before 0 (pageBytes (x .bench) count)
 
--- Refused, everything is as it was, and the answer is 0; else the lists are those held, too.
+-- Refused, everything is as it was, and the answer is 0; else names and counts are those held, too.
 pub record GivesPage (refused : Bool) (x : State) (l : Lent) (before : List ℕ) (r : ℕ) (names counts after : List ℕ) : Type 0 where
   pub answered : r ≡ pick refused 0 pageLength
   pub nameList : names ≡ pick refused (l .names) (x .lent .names)
@@ -91,13 +88,5 @@ pub record GivesPage (refused : Bool) (x : State) (l : Lent) (before : List ℕ)
   pub kept : refused ≡ true → after ≡ before
   pub shown : refused ≡ false → Shows x before after
 
--- the buffer is too short for a page
-abbrev pub scantPage : List ℕ → Bool
-scantPage before = ltb (length before) pageLength
-
--- the roll has fewer calls
-abbrev pub tooFew : List ℕ → ℕ → Bool
-tooFew s k = ltb (eventsOf s) k
-
-unfoldable pub noPage : List ℕ → ℕ → Lent → List ℕ → Bool
-noPage s k l before = scantPage before || (misshapen s || (tooFew s k || openRefuses s l))
+abbrev pub noPage : List ℕ → ℕ → Lent → List ℕ → Bool
+noPage s k l before = nothingShown pageLength s k l before

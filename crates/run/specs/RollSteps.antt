@@ -10,9 +10,7 @@ use Rattle.message.specs.Numbers.{put}
 use Rattle.agreement.specs.Limits.{mostSenders}
 use Rattle.agreement.specs.Sets.{isYes}
 use Rattle.bench.specs.Layout.{Lent}
-use Rattle.bench.specs.Calls.{Call, State, coreOf}
-use Rattle.bench.specs.Record.{Bench}
-use Rattle.calls.specs.Steps.{Leaves}
+use Rattle.bench.specs.Calls.{Call, State}
 use Rattle.bench.specs.declared.Start.{Start}
 use Rattle.bench.specs.declared.Start.the-variants as starts
 use Rattle.bench.specs.declared.Taken.{Taken}
@@ -83,10 +81,10 @@ pub record Remains (z : List ℕ) (r : ℕ) (text : List ℕ) (p : ℕ) (xs : Li
 
 -- ---- what is called
 
--- the call c was made on x: it left record and lists so, and its line is that of the answer
-pub record EventGives (c : Call) (x : State) (a : Answered) (b : Bench) (names counts : List ℕ) : Type 0 where
-  pub leaves : Leaves (coreOf (stepOf x c .held)) b names counts
-  pub line : answerText (b .decided) (isYes (b .parted)) a ≡ lineOf c (stepOf x c)
+-- the call c was made on x: y is the record and the lists that it left, and its line is that of the answer
+pub record EventGives (c : Call) (x : State) (a : Answered) (y : State) : Type 0 where
+  pub left : y ≡ stepOf x c .held
+  pub line : answerText (y .bench .decided) (isYes (y .bench .parted)) a ≡ lineOf c (stepOf x c)
 
 -- ---- the first k calls of a roll s, made on x; the lines are written from place `at` on where they are asked for
 
@@ -106,10 +104,10 @@ pub record LinesFit (prints : Bool) (i p : ℕ) (text : List ℕ) : Type 0 where
   pub low : prints ≡ true → p ≤ lineRoom * (i + 1)
   pub long : prints ≡ true → mostRoll ≤ length text
 
--- made: record, lists and text are left so, and the text ends at r
-pub record Runs (prints : Bool) (s : List ℕ) (k : ℕ) (x : State) (at : ℕ) (before : List ℕ) (b : Bench) (r : ℕ)
-    (names counts after : List ℕ) : Type 0 where
-  pub leaves : Leaves (coreOf (heldAfter x (firstCalls s k))) b names counts
+-- made: y is the record and the lists that are left, and the text is left so and ends at r
+pub record Runs (prints : Bool) (s : List ℕ) (k : ℕ) (x : State) (at : ℕ) (before : List ℕ) (y : State) (r : ℕ)
+    (after : List ℕ) : Type 0 where
+  pub left : y ≡ heldAfter x (firstCalls s k)
   pub lines : Puts (told prints (linesOf x (firstCalls s k))) at before r after
   pub short : prints ≡ true → r ≤ mostRoll
 

@@ -7,6 +7,7 @@ use mathlib.Core.Option.{Option, some, none}
 use mathlib.Core.Path.{_≡_}
 use lib.Dec.{ltb}
 use lib.ListN.{length, replicate}
+use Rattle.message.specs.Limits.{mostBlocks}
 use Rattle.message.specs.Choice.{pick}
 use Rattle.message.specs.Numbers.{put}
 use Rattle.message.specs.Message.{Meaning, logMessage, proposalMessage}
@@ -14,7 +15,7 @@ use Rattle.agreement.specs.Sets.{isYes}
 use Rattle.agreement.specs.Filing.{Word, first, second, known}
 use Rattle.bench.specs.Layout.{Lent, leastLent}
 use Rattle.bench.specs.Terms.{Terms, Seat}
-use Rattle.bench.specs.Calls.{Call, begin, receive, act, Reply, refused, done, took, acted, State, Opening, Step}
+use Rattle.bench.specs.Calls.{Call, begin, receive, act, find, Reply, refused, done, took, acted, found, State, Opening, Step}
 use Rattle.bench.specs.Acts.{Stand}
 use Rattle.bench.specs.History.{History, step, answer, standIn}
 use Rattle.bench.specs.ByRecord.{openOf}
@@ -41,18 +42,21 @@ abbrev pub markText : Bool → List ℕ
 markText true = ascii " parted"
 markText false = []
 
--- ok, WORD, or MADE K D; a refusal "as its number". D, the blocks decided, and the mark are those after the call.
+-- ok, WORD, or MADE K D; a refusal "as its number". D, the blocks decided, and the mark are those after the call. A roll holds no look-up:
+-- nothing is said of one, here and in `callText`.
 unfoldable pub replyText : Reply → ℕ → Bool → List ℕ
 replyText (refused k) d parted = decimal k
 replyText done d parted = ascii "ok"
 replyText (took w) d parted = wordText w
 replyText (acted made) d parted = madeText made ++ (ascii " " ++ (decimal d ++ markText parted))
+replyText (found block inside) d parted = []
 
 -- A refused begin prints the beat asked for too.
 abbrev pub callText : Call → List ℕ
 callText (begin beat) = ascii "begin " ++ decimal beat
 callText (receive bytes) = ascii "take"
 callText (act block priority out) = ascii "act"
+callText (find e) = []
 
 -- every line ends in a line feed
 unfoldable pub lineFor : Call → Reply → ℕ → Bool → List ℕ
@@ -90,6 +94,7 @@ isDone (refused k) = false
 isDone done = true
 isDone (took w) = false
 isDone (acted made) = false
+isDone (found block inside) = false
 
 -- the terms of a roll's bench
 abbrev pub termsOf : List ℕ → Terms
@@ -102,9 +107,13 @@ openedText s l o =
     (firstLine (ownOf s) (benchesOf s) ++ linesOf (record { bench = o .bench; lent = l }) (callsOf s))
     noRollText
 
--- the lent lists that the bench starts on; what they hold at first shows nowhere (RollHistory: any-lists)
+-- the third of the lent lists that the bench starts on
+abbrev pub freshTotals : List ℕ
+freshTotals = replicate mostBlocks 0
+
+-- all three; what they hold at first shows nowhere (RollHistory: any-lists)
 abbrev pub freshLists : Lent
-freshLists = record { names = replicate leastLent 0; counts = replicate leastLent 0 }
+freshLists = record { names = replicate leastLent 0; counts = replicate leastLent 0; totals = freshTotals }
 
 unfoldable pub textOf : List ℕ → List ℕ
 textOf s = pick (misshapen s) noRollText (openedText s freshLists (openOf (benchesOf s) (ownOf s) freshLists))

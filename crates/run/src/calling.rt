@@ -43,6 +43,7 @@ fn act_event(
     priorities: &mut [u64; 32],
     names: &mut [u64],
     counts: &mut [u16],
+    totals: &mut [u32],
     out: &mut [u8; MOST_BYTES],
     roll: &[u8],
     at: usize,
@@ -50,9 +51,10 @@ fn act_event(
     requires { ⌜ at < 4294967296 ⌝ }
     ensures { λ r. ⌜ EventGives (act (offeredAt (now (roll .entry)) at) (priorityAt (now (roll .entry)) at) freshBuffer)
         (heldWith (benchFrom h (now (even .entry)) (now (odd .entry)) (now (proposed .entry)) (now (priorities .entry)))
-        (now (names .entry)) (now (counts .entry)))
-        (r .answer) (benchFrom (r .head) (now (even .exit)) (now (odd .exit)) (now (proposed .exit)) (now (priorities .exit)))
-        (now (names .exit)) (now (counts .exit)) ⌝ }
+        (now (names .entry)) (now (counts .entry)) (now (totals .entry)))
+        (r .answer)
+        (heldWith (benchFrom (r .head) (now (even .exit)) (now (odd .exit)) (now (proposed .exit)) (now (priorities .exit)))
+        (now (names .exit)) (now (counts .exit)) (now (totals .exit))) ⌝ }
 {
     let offer = offer_in(roll, at);
     let acted = parts::act(
@@ -63,6 +65,7 @@ fn act_event(
         priorities,
         names,
         counts,
+        totals,
         out,
         offer.name,
         offer.count,
@@ -85,6 +88,7 @@ pub(crate) fn call_event(
     priorities: &mut [u64; 32],
     names: &mut [u64],
     counts: &mut [u16],
+    totals: &mut [u32],
     out: &mut [u8; MOST_BYTES],
     roll: &[u8],
     i: usize,
@@ -93,14 +97,25 @@ pub(crate) fn call_event(
     requires { ⌜ Lies (now roll) i at ⌝ }
     ensures { λ r. ⌜ EventGives (callAt (now (roll .entry)) i at)
         (heldWith (benchFrom h (now (even .entry)) (now (odd .entry)) (now (proposed .entry)) (now (priorities .entry)))
-        (now (names .entry)) (now (counts .entry)))
-        (r .answer) (benchFrom (r .head) (now (even .exit)) (now (odd .exit)) (now (proposed .exit)) (now (priorities .exit)))
-        (now (names .exit)) (now (counts .exit)) ⌝ }
+        (now (names .entry)) (now (counts .entry)) (now (totals .entry)))
+        (r .answer)
+        (heldWith (benchFrom (r .head) (now (even .exit)) (now (odd .exit)) (now (proposed .exit)) (now (priorities .exit)))
+        (now (names .exit)) (now (counts .exit)) (now (totals .exit))) ⌝ }
 {
     let kind = roll[SIZES_LENGTH + MARK_LENGTH * i];
     if kind == BEGIN_KIND {
         let beat = u32_in(roll, at);
-        let started = parts::begin(h, even, odd, proposed, priorities, names, counts, beat);
+        let started = parts::begin(
+            h,
+            even,
+            odd,
+            proposed,
+            priorities,
+            names,
+            counts,
+            totals,
+            beat,
+        );
         let start = started.answer;
         let head = started.head;
         return Called {
@@ -118,6 +133,7 @@ pub(crate) fn call_event(
             priorities,
             names,
             counts,
+            totals,
             &roll[at..end],
         );
         let taken = received.answer;
@@ -135,6 +151,7 @@ pub(crate) fn call_event(
         priorities,
         names,
         counts,
+        totals,
         out,
         roll,
         at,

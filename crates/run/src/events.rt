@@ -1,7 +1,6 @@
 // The events of a roll: each call is made, and its line written where lines are asked for. Text, page and made message go through this
 // one loop.
 ghost use Prim.Native.Nat.{_≤_};
-ghost use Rattle.bench.specs.Record.{benchOf};
 ghost use Rattle.bench.specs.Answers.{stateOf};
 ghost use Rattle.run.specs.Roll.{eventsOf};
 ghost use Rattle.run.specs.RollSteps.{Shaped, LinesFit, Runs};
@@ -25,6 +24,7 @@ pub(crate) fn run_events(
     bench: Bench,
     names: &mut [u64],
     counts: &mut [u16],
+    totals: &mut [u32],
     roll: &[u8],
     calls: usize,
     text: &mut [u8],
@@ -32,8 +32,9 @@ pub(crate) fn run_events(
     prints: bool,
 ) -> Ran
     requires { ⌜ (Shaped (now roll) × (calls ≤ eventsOf (now roll))) × LinesFit prints 0 at (now text) ⌝ }
-    ensures { λ r. ⌜ Runs prints (now (roll .entry)) calls (stateOf bench (now (names .entry)) (now (counts .entry))) at (now (text .entry))
-        (benchOf (r .bench)) (r .end) (now (names .exit)) (now (counts .exit)) (now (text .exit)) ⌝ }
+    ensures { λ r. ⌜ Runs prints (now (roll .entry)) calls
+        (stateOf bench (now (names .entry)) (now (counts .entry)) (now (totals .entry))) at (now (text .entry))
+        (stateOf (r .bench) (now (names .exit)) (now (counts .exit)) (now (totals .exit))) (r .end) (now (text .exit)) ⌝ }
 {
     let events = events_of(roll);
     let mut body = SIZES_LENGTH + MARK_LENGTH * events;
@@ -54,6 +55,7 @@ pub(crate) fn run_events(
             &mut priorities,
             names,
             counts,
+            totals,
             &mut out,
             roll,
             i,

@@ -45,13 +45,14 @@ pub(crate) fn act_in(
     bench: Bench,
     names: &mut [u64],
     counts: &mut [u16],
+    totals: &mut [u32],
     roll: &[u8],
     at: usize,
     out: &mut [u8],
 ) -> usize
     requires { ⌜ at < 4294967296 ⌝ }
     ensures { λ r. ⌜ GivesMade
-        (madeBy (actOf (stateOf bench (now (names .entry)) (now (counts .entry))) (offeredAt (now (roll .entry)) at)
+        (madeBy (actOf (stateOf bench (now (names .entry)) (now (counts .entry)) (now (totals .entry))) (offeredAt (now (roll .entry)) at)
         (priorityAt (now (roll .entry)) at) (now (out .entry)) .answer .reply)) (now (out .entry)) r (now (out .exit)) ⌝ }
 {
     let offer = offer_in(roll, at);
@@ -59,6 +60,7 @@ pub(crate) fn act_in(
         bench,
         names,
         counts,
+        totals,
         out,
         offer.name,
         offer.count,
@@ -69,8 +71,14 @@ pub(crate) fn act_in(
 }
 
 // The roll has another form, there is no such event or it is no Act, or Open refuses.
-pub(crate) fn is_none_made(roll: &[u8], event: usize, names: &[u64], counts: &[u16]) -> bool
-    ensures { λ r. ⌜ r ≡ noneMade (now (roll .entry)) event (lentAs (now (names .entry)) (now (counts .entry))) ⌝ }
+pub(crate) fn is_none_made(
+    roll: &[u8],
+    event: usize,
+    names: &[u64],
+    counts: &[u16],
+    totals: &[u32],
+) -> bool
+    ensures { λ r. ⌜ r ≡ noneMade (now (roll .entry)) event (lentAs (now (names .entry)) (now (counts .entry)) (now (totals .entry))) ⌝ }
 {
     if is_misshapen(roll) {
         return true;
@@ -78,5 +86,5 @@ pub(crate) fn is_none_made(roll: &[u8], event: usize, names: &[u64], counts: &[u
     if is_no_act(roll, event) {
         return true;
     }
-    is_shut(roll, names, counts)
+    is_shut(roll, names, counts, totals)
 }

@@ -16,7 +16,7 @@ use Rattle.demand.proofs.MachineLaws.{runs-nil, runs-cons, answers-nil, answers
 use Rattle.schedules.specs.Gathering.{gatheringOf, GatheringGives}
 
 module _ (x : State) (beat : ℕ) (message : List ℕ) (block : Block) (priority : ℕ) (out : List ℕ) (h₁ h₂ h₃ : Bench)
-    (ns₁ cs₁ ns₂ cs₂ ns₃ cs₃ left : List ℕ) (r₁ : Start) (r₂ : Taken) (r₃ : Made) where
+    (ns₁ cs₁ ts₁ ns₂ cs₂ ts₂ ns₃ cs₃ ts₃ left : List ℕ) (r₁ : Start) (r₂ : Taken) (r₃ : Made) where
   abbrev begun : Step
   begun = beginOf x beat
 
@@ -27,21 +27,21 @@ module _ (x : State) (beat : ℕ) (message : List ℕ) (block : Block) (priority
   acted s = actOf s block priority out
 
   pub gathered :
-      BeginGives begun r₁ (benchOf h₁) ns₁ cs₁
-      → ReceiveGives (received (stateOf h₁ ns₁ cs₁)) r₂ (benchOf h₂) ns₂ cs₂
-      → ActGives (acted (stateOf h₂ ns₂ cs₂)) r₃ (benchOf h₃) ns₃ cs₃ left
+      BeginGives begun r₁ (benchOf h₁) ns₁ cs₁ ts₁
+      → ReceiveGives (received (stateOf h₁ ns₁ cs₁ ts₁)) r₂ (benchOf h₂) ns₂ cs₂ ts₂
+      → ActGives (acted (stateOf h₂ ns₂ cs₂ ts₂)) r₃ (benchOf h₃) ns₃ cs₃ ts₃ left
       → GatheringGives x (gatheringOf beat message block priority out)
-      (record { started = r₁; taken = r₂; made = r₃; bench = h₃ }) ns₃ cs₃ left
+      (record { started = r₁; taken = r₂; made = r₃; bench = h₃ }) ns₃ cs₃ ts₃ left
   gathered b r a =
-      let one : stateOf h₁ ns₁ cs₁ ≡ begun .held = λ i. heldWith (b .bench i) (b .nameList i) (b .countList i) in
-      let two : stateOf h₂ ns₂ cs₂ ≡ received (begun .held) .held =
-      (λ i. heldWith (r .bench i) (r .nameList i) (r .countList i)) ∙ ap (λ (s : State). received s .held) one in
-      let three : stateOf h₃ ns₃ cs₃ ≡ acted (received (begun .held) .held) .held =
-      (λ i. heldWith (a .bench i) (a .nameList i) (a .countList i)) ∙ ap (λ (s : State). acted s .held) two in
+      let one : stateOf h₁ ns₁ cs₁ ts₁ ≡ begun .held = λ i. heldWith (b .bench i) (b .nameList i) (b .countList i) (b .totalList i) in
+      let two : stateOf h₂ ns₂ cs₂ ts₂ ≡ received (begun .held) .held =
+      (λ i. heldWith (r .bench i) (r .nameList i) (r .countList i) (r .totalList i)) ∙ ap (λ (s : State). received s .held) one in
+      let three : stateOf h₃ ns₃ cs₃ ts₃ ≡ acted (received (begun .held) .held) .held =
+      (λ i. heldWith (a .bench i) (a .nameList i) (a .countList i) (a .totalList i)) ∙ ap (λ (s : State). acted s .held) two in
       let started : _≡_ {A = Answer} (record { reply = startReply r₁; out = [] }) (begun .answer) =
       λ i. record { reply = b .answered i; out = sym (begin-out x beat) i } in
       let taken : _≡_ {A = Answer} (record { reply = takenReply r₂; out = [] }) (received (begun .held) .answer) =
-      (λ i. record { reply = r .answered i; out = sym (receive-out (stateOf h₁ ns₁ cs₁) message) i })
+      (λ i. record { reply = r .answered i; out = sym (receive-out (stateOf h₁ ns₁ cs₁ ts₁) message) i })
       ∙ ap (λ (s : State). received s .answer) one in
       let made : _≡_ {A = Answer} (record { reply = madeReply left r₃; out = left }) (acted (received (begun .held) .held) .answer) =
       (λ i. record { reply = a .answered i; out = a .buffer i }) ∙ ap (λ (s : State). acted s .answer) two in

@@ -25,6 +25,6 @@ answersIn r out =
     ∷ []
 
 -- answers and buffer, record and lists are those of the events
-pub record GatheringGives (x : State) (es : List Event) (r : Gathered) (names counts out : List ℕ) : Type 0 where
+pub record GatheringGives (x : State) (es : List Event) (r : Gathered) (names counts totals out : List ℕ) : Type 0 where
   pub answered : answersIn r out ≡ answers theBench x es
-  pub held : stateOf (r .bench) names counts ≡ runs theBench x es
+  pub held : stateOf (r .bench) names counts totals ≡ runs theBench x es

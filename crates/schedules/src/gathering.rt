@@ -19,6 +19,7 @@ pub fn gather(
     bench: Bench,
     names: &mut [u64],
     counts: &mut [u16],
+    totals: &mut [u32],
     out: &mut [u8],
     message: &[u8],
     beat: u32,
@@ -26,14 +27,23 @@ pub fn gather(
     count: u16,
     priority: u64,
 ) -> Gathered
-    ensures { λ r. ⌜ GatheringGives (stateOf bench (now (names .entry)) (now (counts .entry)))
+    ensures { λ r. ⌜ GatheringGives (stateOf bench (now (names .entry)) (now (counts .entry)) (now (totals .entry)))
         (gatheringOf beat (now (message .entry)) (record { name = name; count = count }) priority (now (out .entry))) r (now (names .exit))
-        (now (counts .exit)) (now (out .exit)) ⌝ }
+        (now (counts .exit)) (now (totals .exit)) (now (out .exit)) ⌝ }
 {
     let mut record = bench;
-    let started = lent::begin(&mut record, names, counts, beat);
-    let taken = lent::receive(&mut record, names, counts, message);
-    let made = lent::act(&mut record, names, counts, out, name, count, priority);
+    let started = lent::begin(&mut record, names, counts, totals, beat);
+    let taken = lent::receive(&mut record, names, counts, totals, message);
+    let made = lent::act(
+        &mut record,
+        names,
+        counts,
+        totals,
+        out,
+        name,
+        count,
+        priority,
+    );
     Gathered {
         started,
         taken,

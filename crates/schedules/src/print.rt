@@ -1,5 +1,6 @@
 // Answers in print, behind what the call was handed; a refusal is its number.
 use bench::Bench;
+use bench::Entry;
 use bench::Made;
 use bench::Start;
 use bench::Taken;
@@ -44,5 +45,17 @@ pub(crate) fn say_made(answer: Made, bench: Bench) {
         Made::Log(blocks) => say_act(b": log ", blocks, bench),
         Made::Proposal(blocks) => say_act(b": proposal ", blocks, bench),
         Made::Refused(x) => say_refusal(x),
+    }
+}
+
+pub(crate) fn say_entry(answer: Entry) {
+    match answer {
+        Entry::At(block, inside) => {
+            say(b": block ");
+            say_number(block as u64);
+            say(b" place ");
+            say_number(inside as u64);
+        }
+        Entry::Refused(x) => say_refusal(x),
     }
 }

@@ -7,11 +7,15 @@ use super::print::say_made;
 use super::print::say_start;
 use super::print::say_taken;
 use super::schedule::act;
+use super::schedule::find;
+use super::schedule::length;
 use super::schedule::receive;
+use super::schedule::spoil;
 use super::schedule::start;
 use bench::Bench;
 use bench::LEAST_LENT;
 use bench::MOST_BYTES;
+use message::MOST_BLOCKS;
 use script::Clause;
 use script::clause_at;
 
@@ -28,15 +32,18 @@ fn lend(
     before: Bench,
     names: &mut [u64; LEAST_LENT],
     counts: &mut [u16; LEAST_LENT],
+    totals: &mut [u32],
 ) -> Turn {
     let view = clause_at(script, c.next);
     let last = clause_at(script, view.next);
     let mut bytes = [0u8; LONGEST];
     form::write(&mut bytes, view);
+    let k = length(c, b'l', totals.len());
     let gathered = gather(
         before,
         names,
         counts,
+        &mut totals[0..k],
         &mut [0; MOST_BYTES],
         front(&bytes, view),
         c.long(b'n'),
@@ -69,15 +76,18 @@ pub(crate) fn take_turn(
     before: Bench,
     names: &mut [u64; LEAST_LENT],
     counts: &mut [u16; LEAST_LENT],
+    totals: &mut [u32; MOST_BLOCKS],
 ) -> Turn {
     let c = clause_at(script, at);
     c.write(script);
     let word = c.word;
     let bench = match word {
-        b'b' | b'o' => start(c, before, names, counts),
-        b'v' => receive(c, before, names, counts),
-        b'a' => act(c, before, names, counts),
-        b'l' => return lend(script, c, before, names, counts),
+        b'b' | b'o' => start(c, before, names, counts, totals),
+        b'v' => receive(c, before, names, counts, totals),
+        b'a' => act(c, before, names, counts, totals),
+        b'f' => find(c, before, names, counts, totals),
+        b't' => spoil(c, before, totals),
+        b'l' => return lend(script, c, before, names, counts, totals),
         _ => before,
     };
     c.write_end();

@@ -5,8 +5,9 @@ use crate::tree::{crate_of, Tree};
 use std::collections::BTreeMap;
 
 /// Tables of computed facts, which open whatever they compute with; no law is opened through them.
-const TABLES: [&str; 12] = [
+const TABLES: [&str; 13] = [
     "crates/agreement/proofs/Starred.antt",
+    "crates/bench/proofs/EntryTable.antt",
     "crates/bench/proofs/MadeTable.antt",
     "crates/bench/proofs/LimitTable.antt",
     "crates/bench/proofs/Order.antt",

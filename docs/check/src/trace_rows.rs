@@ -3,8 +3,8 @@ use crate::finding::Finding;
 use crate::markdown::{blocks, cells, Kind};
 use std::collections::BTreeSet;
 
-/// The groups of obligations, and how many each has.
-const GROUPS: [(&str, usize); 9] = [
+/// The groups of obligations, and how many each has; S1. is of request 1.
+const GROUPS: [(&str, usize); 10] = [
     ("D", 4),
     ("M", 6),
     ("A", 6),
@@ -14,6 +14,7 @@ const GROUPS: [(&str, usize); 9] = [
     ("P", 5),
     ("F", 8),
     ("G", 5),
+    ("S1.", 11),
 ];
 
 pub fn check(document: &str, text: &str) -> Vec<Finding> {

@@ -56,6 +56,7 @@ fn links_and_paths_lead_somewhere() {
         README,
         "docs/DECISIONS.md",
         "docs/BENCHMARK.md",
+        "docs/CHANGES.md",
         "docs/SKETCHES.md",
         READING,
         TRACE,

@@ -12,10 +12,11 @@ fn rows(numbers: &[String]) -> String {
 }
 
 fn owed() -> Vec<String> {
-    let counts = "D4 M6 A6 B15 T12 X13 P5 F8 G5".split(' ').map(|group| group.split_at(1));
-    let numbers = counts.flat_map(|(group, count)| {
-        let count: usize = count.parse().expect("a count");
-        (1..=count).map(move |k| format!("{group}{k}"))
+    let counts = "D 4 M 6 A 6 B 15 T 12 X 13 P 5 F 8 G 5 S1. 11";
+    let counts: Vec<&str> = counts.split(' ').collect();
+    let numbers = counts.chunks(2).flat_map(|group| {
+        let count: usize = group[1].parse().expect("a count");
+        (1..=count).map(move |k| format!("{}{k}", group[0]))
     });
     numbers.collect()
 }
@@ -139,6 +140,7 @@ fn a_path_is_below_a_crate_of_the_rows_layer() {
     assert!(names_said("| D3 | *Layers: bench and run.*", "| D3 |").contains(":7: src/lib.rt does not declare open"));
     assert!(names_said("bench and run.*", "stool.*").contains(":7: there is no layer called stool"));
     assert_eq!(names_said("in specs/History.antt", "in crates/bench/specs/History.antt"), "");
+    assert_eq!(names_said("| B1 |", "| S1.11 |"), "");
 }
 
 #[test]

@@ -1,7 +1,7 @@
 //! A roll as a bench lives it: four benches in step, messages of a beat handed over in the next one, a LOG passed on once more.
 use super::events::Events;
 use super::Case;
-use crate::record::{Bench, Block, Made, LEAST_LENT, MOST_BYTES};
+use crate::record::{Bench, Block, Made, LEAST_LENT, LEAST_TOTALS, MOST_BYTES};
 
 const N: u8 = 4;
 
@@ -10,35 +10,40 @@ struct Desk {
     bench: Bench,
     names: Vec<u64>,
     counts: Vec<u16>,
+    totals: Vec<u32>,
     out: Vec<u8>,
 }
 
 impl Desk {
     fn open(own: u8) -> Desk {
-        let (names, counts) = (vec![0; LEAST_LENT], vec![0; LEAST_LENT]);
-        let bench = Bench::open(N, own, &names, &counts).expect("number and lists are in range");
+        let (names, counts, totals) = (vec![0; LEAST_LENT], vec![0; LEAST_LENT], vec![0; LEAST_TOTALS]);
+        let bench = Bench::open(N, own, &names, &counts, &totals).expect("number and lists are in range");
         Desk {
             bench,
             names,
             counts,
+            totals,
             out: vec![0; MOST_BYTES],
         }
     }
 
     /// Begins the beat, takes what comes and acts; the message made.
     fn live(&mut self, beat: u32, inbox: &[Vec<u8>], offered: Block, priority: u64) -> Option<Vec<u8>> {
-        self.bench.begin(&self.names, &self.counts, beat).expect("beats rise");
+        let Desk {
+            bench,
+            names,
+            counts,
+            totals,
+            out,
+        } = self;
+        bench.begin(names, counts, totals, beat).expect("beats rise");
         for message in inbox {
-            self.bench
-                .receive(&mut self.names, &mut self.counts, message)
-                .expect("views are open");
+            bench.receive(names, counts, totals, message).expect("views are open");
         }
-        let made = self
-            .bench
-            .act(&mut self.names, &mut self.counts, &mut self.out, offered, priority);
+        let made = bench.act(names, counts, totals, out, offered, priority);
         match made.expect("a gathering is under way") {
             Made::Nothing => None,
-            Made::Log(blocks) | Made::Proposal(blocks) => Some(self.out[..16 + 10 * blocks as usize].to_vec()),
+            Made::Log(blocks) | Made::Proposal(blocks) => Some(out[..16 + 10 * blocks as usize].to_vec()),
         }
     }
 }

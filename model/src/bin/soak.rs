@@ -1,8 +1,9 @@
 //! Random rolls and volumes of many benches, with new seeds until the time is over: `soak SECONDS`; or one kept roll again:
 //! `soak roll FILE`.
 use model::history::roll::text;
-use model::proved::roll_text;
+use model::proved::{roll_entry, roll_text};
 use model::rolls::compare::{compare, first_difference, from_hex, Difference};
+use model::rolls::entries::{self, Met};
 use model::rolls::tally::Tally;
 use model::volume::run_seed;
 use std::process::ExitCode;
@@ -55,7 +56,8 @@ struct Soak {
     rolls: u64,
     lines: usize,
     volumes: u64,
-    /// Rolls whose texts differ, and volumes with a fault.
+    entries: Met,
+    /// Rolls whose texts or entries differ, and volumes with a fault.
     wrong: u64,
 }
 
@@ -68,6 +70,7 @@ impl Soak {
         let mut next_line = Duration::from_secs(PROGRESS);
         for seed in first.. {
             self.try_roll(seed);
+            self.try_entries(seed);
             if seed % VOLUME_EVERY == 0 {
                 self.try_volume(seed);
             }
@@ -97,6 +100,14 @@ impl Soak {
         }
     }
 
+    fn try_entries(&mut self, seed: u64) {
+        let proved = |moment: &entries::Moment, entry| roll_entry(moment.roll, moment.calls, entry);
+        if let Err(unlike) = entries::compare(seed, &mut self.entries, proved) {
+            self.wrong += 1;
+            println!("DIFFERENCE {unlike}");
+        }
+    }
+
     fn try_volume(&mut self, seed: u64) {
         self.volumes += 1;
         if let Some(fault) = run_seed(seed).fault() {
@@ -107,10 +118,11 @@ impl Soak {
 
     fn progress(&self, start: Instant) {
         println!(
-            "{:6} s: {} rolls, {} lines compared, {} volumes, {} wrong",
+            "{:6} s: {} rolls, {} lines compared, {} entries found, {} volumes, {} wrong",
             start.elapsed().as_secs(),
             self.rolls,
             self.lines,
+            self.entries.found,
             self.volumes,
             self.wrong
         );

@@ -1,6 +1,7 @@
-//! The bench: its list of what happened, the four calls, and what follows from the list (document 01, Four calls and Calendar
-//! of acts).
+//! The bench: its list of what happened, the calls, and what follows from the list (document 01, Four calls and Calendar of acts;
+//! document 02, request 1).
 use super::agreement::{Agreement, Count, Voters};
+use super::entries::{self, Found};
 use super::message::{is_prefix, Block, Kind, Log, Message, LAST_VIEW, MOST_BLOCKS};
 use std::collections::HashMap;
 
@@ -119,6 +120,11 @@ impl Bench {
             Call::Receive(bytes) => self.receive(bytes),
             Call::Act { block, priority } => self.act(*block, *priority),
         }
+    }
+
+    /// The entry of this number in the decided log that stands, or refusal 23: at any time, and nothing changes.
+    pub fn find(&self, entry: u32) -> Result<Found, u8> {
+        entries::find(self.standing().0, entry)
     }
 
     /// The decided log that stands.

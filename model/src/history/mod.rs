@@ -5,6 +5,7 @@
 //! (a round), *parted* is the flag of a bench that decided two conflicting logs, a *roll* is a recorded trace of calls.
 pub mod agreement;
 pub mod bench;
+pub mod entries;
 pub mod message;
 pub mod roll;
 

@@ -1,5 +1,6 @@
 //! Document 01's schedules small enough to draw, and the readings that are easy to get wrong, each as a list of calls.
 use super::bench::{Bench, Call, Reply, Rules, Word, LAST_BEAT};
+use super::entries::Found;
 use super::message::{Block, Kind, Log, Message, LAST_VIEW};
 
 fn log(names: &[u64]) -> Log {
@@ -460,6 +461,39 @@ fn decisions_extend_repeat_or_part() {
 }
 
 #[test]
+fn entries_are_looked_up_in_what_stands() {
+    let found = |logs: &[&[u64]]| [0, 1, 2, 3].map(|entry| decide(logs).find(entry).map(|found| found.block));
+    let one_and_two = [Ok(0), Ok(1), Err(23), Err(23)];
+    assert_eq!(found(&[]), [Err(23); 4], "nothing is decided");
+    assert_eq!(found(&[&[]]), [Err(23); 4], "the empty log is decided");
+    assert_eq!(found(&[&[5, 6]]), one_and_two);
+    assert_eq!(found(&[&[5, 6], &[5]]), one_and_two, "a prefix changes nothing");
+    assert_eq!(found(&[&[5, 6], &[5, 7, 8]]), one_and_two, "nor does a conflict");
+    assert_eq!(found(&[&[5, 6], &[5, 7, 8], &[5, 6, 9]]), [Ok(0), Ok(1), Ok(2), Err(23)]);
+}
+
+#[test]
+fn an_entry_is_looked_up_at_any_time() {
+    let (bench, _) = run(1, 0, &[]);
+    assert_eq!(bench.find(0), Err(23), "no beat begun");
+    let calls: Vec<Call> = (0..=7)
+        .flat_map(|beat| [begin(beat), offer(if beat == 0 { 5 } else { 0 }, 9)])
+        .collect();
+    let found = |calls: &[Call]| run(1, 0, calls).0.find(0);
+    let first = Ok(Found { block: 0, inside: 0 });
+    assert_eq!(
+        (found(&calls[..13]), found(&calls[..14])),
+        (Err(23), first),
+        "before and after the act"
+    );
+    assert_eq!(
+        (found(&calls[..15]), found(&calls)),
+        (first, first),
+        "in a gathering, and after it"
+    );
+}
+
+#[test]
 fn two_views_are_decided_one_on_the_other_with_their_counts() {
     let block = |name, count| Block { name, count };
     let mut bench = Bench::open(1, 0).unwrap();
@@ -475,6 +509,8 @@ fn two_views_are_decided_one_on_the_other_with_their_counts() {
         bench.decisions(),
         [(6, vec![block(5, 3)]), (10, vec![block(5, 3), block(6, 0)])]
     );
+    assert_eq!(bench.find(2), Ok(Found { block: 0, inside: 2 }));
+    assert_eq!(bench.find(3), Err(23), "the second block holds none");
 }
 
 #[test]

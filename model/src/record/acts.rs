@@ -3,18 +3,28 @@ use super::agreement::{Agreement, Grade};
 use super::bench::{view_of, Bench};
 use super::lists::{Block, Lists, Log, DECIDED_PLACE};
 use super::message::{self, Head, Kind, MOST_BYTES};
+use super::totals::{self, LEAST_TOTALS};
 use super::{Made, MOST_BLOCKS};
 
 type Out = [u8; MOST_BYTES];
+type Totals = [u32; LEAST_TOTALS];
 
 impl Bench {
-    pub(super) fn act_at(&mut self, beat: u32, lists: &mut Lists, out: &mut Out, offered: Block, priority: u64) -> Made {
+    pub(super) fn act_at(
+        &mut self,
+        beat: u32,
+        lists: &mut Lists,
+        totals: &mut Totals,
+        out: &mut Out,
+        offered: Block,
+        priority: u64,
+    ) -> Made {
         let view = view_of(beat);
         let made = match (beat % 4, view) {
             (0, Some(view)) => self.propose(lists, out, view, offered, priority),
             (1, Some(view)) => self.vote(lists, out, view),
             (2, _) => {
-                self.decide(lists, beat / 4);
+                self.decide(lists, totals, beat / 4);
                 if let Some(view) = view {
                     snap(self.agreement_of(view), Grade::Two);
                 }
@@ -84,8 +94,8 @@ impl Bench {
         written.blocks() as u8
     }
 
-    /// The longest log with grade 2 extends the decided log, is a prefix of it, or sets the mark.
-    fn decide(&mut self, lists: &mut Lists, view: u32) {
+    /// The longest log with grade 2 extends the decided log, and the totals with it, is a prefix of it, or sets the mark.
+    fn decide(&mut self, lists: &mut Lists, totals: &mut Totals, view: u32) {
         let Some(log) = self.longest(lists, view, Grade::Two) else {
             return;
         };
@@ -96,6 +106,7 @@ impl Bench {
         if lists.shared(decided, log) < decided.blocks.min(log.blocks) {
             self.parted = true;
         } else if log.blocks > decided.blocks {
+            totals::extend(totals, lists.counts_of(log), decided.blocks);
             lists.decide(log);
             self.decided = log.blocks as u8;
         }

@@ -1,8 +1,9 @@
-//! The record of one bench, and its four calls. A refused call changes nothing.
+//! The record of one bench, and its five calls. A refused call changes nothing.
 use super::agreement::Agreement;
-use super::lists::{are_short, Block, Lists};
+use super::lists::{are_short, Block, Lists, DECIDED_PLACE};
 use super::message::{self, Head, Kind, LogBytes};
 use super::proposals::Proposals;
+use super::totals::{self, Found};
 use super::{Made, Refusal, Word, LAST_BEAT, LAST_VIEW, MOST_BLOCKS, MOST_SENDERS};
 
 /// Its fields are open to anyone, so each call tests them.
@@ -23,11 +24,11 @@ pub struct Bench {
 
 impl Bench {
     /// Refused: 7, 8.
-    pub fn open(n: u8, own: u8, names: &[u64], counts: &[u16]) -> Result<Bench, Refusal> {
+    pub fn open(n: u8, own: u8, names: &[u64], counts: &[u16], totals: &[u32]) -> Result<Bench, Refusal> {
         if is_out_of_range(n, own) {
             return Err(7);
         }
-        if are_short(names, counts) {
+        if are_short(names, counts, totals) {
             return Err(8);
         }
         let agreements = [Agreement::empty(0); 2];
@@ -44,14 +45,10 @@ impl Bench {
         })
     }
 
-    /// Refused: 9, 8, 10, 20.
-    pub fn begin(&mut self, names: &[u64], counts: &[u16], beat: u32) -> Result<(), Refusal> {
-        if self.is_beyond() {
-            return Err(9);
-        }
-        if are_short(names, counts) {
-            return Err(8);
-        }
+    /// Refused: 9, 8, 9 by the totals, 10, 20.
+    #[inline(always)]
+    pub fn begin(&mut self, names: &[u64], counts: &[u16], totals: &[u32], beat: u32) -> Result<(), Refusal> {
+        self.judge(names, counts, totals)?;
         if beat > LAST_BEAT {
             return Err(10);
         }
@@ -64,11 +61,9 @@ impl Bench {
         Ok(())
     }
 
-    /// Refused: 9, 8, 22, 1 to 6, 21.
-    pub fn receive(&mut self, names: &mut [u64], counts: &mut [u16], bytes: &[u8]) -> Result<Word, Refusal> {
-        if self.is_beyond() {
-            return Err(9);
-        }
+    /// Refused: 9, 8, 9 by the totals, 22, 1 to 6, 21.
+    pub fn receive(&mut self, names: &mut [u64], counts: &mut [u16], totals: &[u32], bytes: &[u8]) -> Result<Word, Refusal> {
+        self.judge(names, counts, totals)?;
         let mut lists = Lists::of(names, counts).ok_or(8)?;
         let beat = self.beat().ok_or(22)?;
         let (head, log) = message::read(self.n, bytes)?;
@@ -83,23 +78,46 @@ impl Bench {
         Ok(self.file(&mut lists, head, &log))
     }
 
-    /// Refused: 9, 8, 11, 22.
+    /// Refused: 9, 8, 9 by the totals, 11, 22.
     pub fn act(
         &mut self,
         names: &mut [u64],
         counts: &mut [u16],
+        totals: &mut [u32],
         out: &mut [u8],
         offered: Block,
         priority: u64,
     ) -> Result<Made, Refusal> {
-        if self.is_beyond() {
-            return Err(9);
-        }
+        self.judge(names, counts, totals)?;
         let mut lists = Lists::of(names, counts).ok_or(8)?;
+        let totals = totals.first_chunk_mut().ok_or(8)?;
         let out = out.first_chunk_mut().ok_or(11)?;
         let beat = self.beat().ok_or(22)?;
         self.gathering = false;
-        Ok(self.act_at(beat, &mut lists, out, offered, priority))
+        Ok(self.act_at(beat, &mut lists, totals, out, offered, priority))
+    }
+
+    /// Refused: 9, 8, 9 by the totals, 23.
+    pub fn find(&self, names: &[u64], counts: &[u16], totals: &[u32], entry: u32) -> Result<Found, Refusal> {
+        self.judge(names, counts, totals)?;
+        totals::find(&totals[..self.decided as usize], entry).ok_or(23)
+    }
+
+    /// Refusals 9, 8, and 9 by the totals: those of every call on a record, before any other. In line, as Begin is: counted in
+    /// instructions, a call costs more than the test where little is decided.
+    #[inline(always)]
+    fn judge(&self, names: &[u64], counts: &[u16], totals: &[u32]) -> Result<(), Refusal> {
+        if self.is_beyond() {
+            return Err(9);
+        }
+        if are_short(names, counts, totals) {
+            return Err(8);
+        }
+        let decided = self.decided as usize;
+        if totals::are_unlike(&totals[..decided], &counts[DECIDED_PLACE..][..decided]) {
+            return Err(9);
+        }
+        Ok(())
     }
 
     /// The beat of the gathering under way.
@@ -148,7 +166,7 @@ impl Bench {
         &mut self.proposals
     }
 
-    /// Refusal 9.
+    /// Refusal 9 by the record alone.
     fn is_beyond(&self) -> bool {
         let above = u32::MAX.checked_shl(self.n as u32).unwrap_or(0);
         is_out_of_range(self.n, self.own)

@@ -1,5 +1,6 @@
-//! The two lent lists and the logs in them: those of two agreements, the proposed ones, the decided one.
+//! The lent lists of blocks and the logs in them: those of two agreements, the proposed ones, the decided one.
 use super::message::LogBytes;
+use super::totals::LEAST_TOTALS;
 use super::{MOST_BLOCKS, MOST_SENDERS};
 use std::ops::{BitOr, BitXor};
 
@@ -7,7 +8,7 @@ const SPAN: usize = MOST_SENDERS * MOST_BLOCKS;
 pub const PROPOSALS_PLACE: usize = 2 * SPAN;
 pub const DECIDED_PLACE: usize = 3 * SPAN;
 
-/// The least length of a lent list.
+/// The least length of a lent list of blocks.
 pub const LEAST_LENT: usize = DECIDED_PLACE + MOST_BLOCKS;
 
 /// The place of the first log of a view's agreement.
@@ -34,12 +35,12 @@ impl Log {
     pub const EMPTY: Log = Log { at: 0, blocks: 0 };
 }
 
-/// A lent list is too short.
-pub fn are_short(names: &[u64], counts: &[u16]) -> bool {
-    names.len() < LEAST_LENT || counts.len() < LEAST_LENT
+/// A lent list is too short, the totals among them.
+pub fn are_short(names: &[u64], counts: &[u16], totals: &[u32]) -> bool {
+    names.len() < LEAST_LENT || counts.len() < LEAST_LENT || totals.len() < LEAST_TOTALS
 }
 
-/// The lent lists, known to be long enough.
+/// The lent lists of blocks, known to be long enough.
 pub struct Lists<'a> {
     names: &'a mut [u64; LEAST_LENT],
     counts: &'a mut [u16; LEAST_LENT],
@@ -156,8 +157,10 @@ mod tests {
     fn lists_one_place_short_are_none() {
         let mut names = vec![0; LEAST_LENT];
         let mut counts = vec![0; LEAST_LENT];
+        let totals = [0; 64];
         assert!(Lists::of(&mut names, &mut counts).is_some());
-        assert!(Lists::of(&mut names[1..], &mut counts).is_none() && are_short(&names[1..], &counts));
-        assert!(Lists::of(&mut names, &mut counts[1..]).is_none() && are_short(&names, &counts[1..]));
+        assert!(Lists::of(&mut names[1..], &mut counts).is_none() && are_short(&names[1..], &counts, &totals));
+        assert!(Lists::of(&mut names, &mut counts[1..]).is_none() && are_short(&names, &counts[1..], &totals));
+        assert!(are_short(&names, &counts, &totals[1..]) && !are_short(&names, &counts, &totals));
     }
 }

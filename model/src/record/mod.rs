@@ -1,6 +1,6 @@
 //! One bench as a record, written for speed in safe Rust: state is changed in place, sets of senders are bit masks, logs are
-//! compared as slices. It gives the answers of document 01 call by call, refusals 9 and 8 tested in each, as the proved code
-//! does; the benchmark measures that code against this one.
+//! compared as slices. It gives the answers of documents 01 and 02 call by call, refusals 9 and 8 tested in each, as the proved
+//! code does; the benchmark measures that code against this one.
 mod acts;
 mod agreement;
 mod bench;
@@ -10,7 +10,10 @@ mod message;
 mod proposals;
 pub mod roll;
 mod text;
+mod totals;
 
+#[cfg(test)]
+mod entries;
 #[cfg(test)]
 mod schedules;
 
@@ -18,6 +21,7 @@ pub use bench::Bench;
 pub use lists::{Block, LEAST_LENT};
 pub use message::{log_bytes, proposal_bytes, MOST_BYTES};
 pub use roll::write_roll_text;
+pub use totals::{Found, LEAST_TOTALS};
 
 /// The most benches of a register, and the most blocks of a log.
 pub const MOST_SENDERS: usize = 32;

@@ -3,6 +3,7 @@ use super::bench::Bench;
 use super::lists::{Block, LEAST_LENT};
 use super::message::MOST_BYTES;
 use super::text::Text;
+use super::totals::LEAST_TOTALS;
 use crate::proved::LEAST_BUFFER;
 
 const MOST_ROLL: usize = 65_536;
@@ -53,6 +54,7 @@ impl<'a> Roll<'a> {
 struct Desk {
     names: [u64; LEAST_LENT],
     counts: [u16; LEAST_LENT],
+    totals: [u32; LEAST_TOTALS],
     out: [u8; MOST_BYTES],
 }
 
@@ -61,7 +63,7 @@ fn run_event(bench: &mut Bench, desk: &mut Desk, kind: u8, body: &[u8], text: &m
     match (kind, body) {
         (BEGIN, &[b0, b1, b2, b3]) => {
             let beat = u32::from_le_bytes([b0, b1, b2, b3]);
-            text.begin(beat, bench.begin(&desk.names, &desk.counts, beat));
+            text.begin(beat, bench.begin(&desk.names, &desk.counts, &desk.totals, beat));
         }
         (ACT, &[n0, n1, n2, n3, n4, n5, n6, n7, p0, p1, p2, p3, p4, p5, p6, p7, c0, c1]) => {
             let name = u64::from_le_bytes([n0, n1, n2, n3, n4, n5, n6, n7]);
@@ -70,10 +72,16 @@ fn run_event(bench: &mut Bench, desk: &mut Desk, kind: u8, body: &[u8], text: &m
                 name,
                 count: u16::from_le_bytes([c0, c1]),
             };
-            let made = bench.act(&mut desk.names, &mut desk.counts, &mut desk.out, offered, priority);
+            let Desk {
+                names,
+                counts,
+                totals,
+                out,
+            } = desk;
+            let made = bench.act(names, counts, totals, out, offered, priority);
             text.act(made, bench.decided, bench.parted);
         }
-        _ => text.take(bench.receive(&mut desk.names, &mut desk.counts, body)),
+        _ => text.take(bench.receive(&mut desk.names, &mut desk.counts, &desk.totals, body)),
     }
 }
 
@@ -82,9 +90,10 @@ fn run(roll: &Roll, text: &mut Text) -> Option<()> {
     let mut desk = Desk {
         names: [0; LEAST_LENT],
         counts: [0; LEAST_LENT],
+        totals: [0; LEAST_TOTALS],
         out: [0; MOST_BYTES],
     };
-    let mut bench = Bench::open(roll.n, roll.own, &desk.names, &desk.counts).ok()?;
+    let mut bench = Bench::open(roll.n, roll.own, &desk.names, &desk.counts, &desk.totals).ok()?;
     text.bench(roll.own, roll.n);
     let mut bodies = roll.bodies;
     for mark in roll.marks {

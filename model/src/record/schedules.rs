@@ -217,21 +217,27 @@ fn a_decision_in_conflict_parts_for_good() {
     );
 }
 
-fn fresh() -> (Bench, Vec<u64>, Vec<u16>, Vec<u8>) {
-    let (names, counts) = (vec![0; LEAST_LENT], vec![0; LEAST_LENT]);
-    let bench = Bench::open(4, 1, &names, &counts).unwrap();
-    (bench, names, counts, vec![0; MOST_BYTES])
+fn fresh() -> (Bench, Vec<u64>, Vec<u16>, Vec<u32>, Vec<u8>) {
+    let (names, counts, totals) = (vec![0; LEAST_LENT], vec![0; LEAST_LENT], vec![0; LEAST_TOTALS]);
+    let bench = Bench::open(4, 1, &names, &counts, &totals).unwrap();
+    (bench, names, counts, totals, vec![0; MOST_BYTES])
 }
 
 #[test]
 fn open_tests_numbers_and_then_lists() {
-    let (_, names, counts, _) = fresh();
+    let (_, names, counts, totals, _) = fresh();
     assert_eq!(
-        [(0, 0), (33, 0), (4, 4)].map(|(n, own)| Bench::open(n, own, &[], &[]).err()),
+        [(0, 0), (33, 0), (4, 4)].map(|(n, own)| Bench::open(n, own, &[], &[], &[]).err()),
         [Some(7); 3]
     );
-    assert_eq!(Bench::open(4, 1, &names[1..], &counts).err(), Some(8));
-    assert!(Bench::open(32, 31, &names, &counts).is_ok());
+    assert_eq!(Bench::open(4, 1, &names[1..], &counts, &totals).err(), Some(8));
+    assert_eq!(Bench::open(4, 1, &names, &counts[1..], &totals).err(), Some(8));
+    assert_eq!(Bench::open(4, 1, &names, &counts, &totals[1..]).err(), Some(8));
+    assert!(Bench::open(32, 31, &names, &counts, &totals).is_ok());
+    assert!(
+        Bench::open(32, 31, &names, &counts, &[u32::MAX; 64]).is_ok(),
+        "whatever the totals hold"
+    );
 }
 
 /// Records with one cause of 9 each.
@@ -259,20 +265,21 @@ fn beyond() -> Vec<fn(&mut Bench)> {
 #[test]
 fn nine_comes_before_eight_and_leaves_everything() {
     for edit in beyond() {
-        let (mut bench, _, _, mut out) = fresh();
+        let (mut bench, _, _, _, mut out) = fresh();
         edit(&mut bench);
         let before = bench;
         let none = Block { name: 0, count: 0 };
-        assert_eq!(bench.begin(&[], &[], LAST_BEAT + 1), Err(9));
-        assert_eq!(bench.receive(&mut [], &mut [], &[]), Err(9));
-        assert_eq!(bench.act(&mut [], &mut [], &mut out[1..], none, 0), Err(9));
+        assert_eq!(bench.begin(&[], &[], &[], LAST_BEAT + 1), Err(9));
+        assert_eq!(bench.receive(&mut [], &mut [], &[], &[]), Err(9));
+        assert_eq!(bench.act(&mut [], &mut [], &mut [], &mut out[1..], none, 0), Err(9));
+        assert_eq!(bench.find(&[], &[], &[], u32::MAX), Err(9));
         assert_eq!(bench, before);
     }
 }
 
 #[test]
 fn records_at_their_limits_are_served() {
-    let (mut bench, names, counts, _) = fresh();
+    let (mut bench, names, counts, totals, _) = fresh();
     bench.agreements[0] = Agreement {
         voters: 1,
         equivocators: 14,
@@ -288,24 +295,31 @@ fn records_at_their_limits_are_served() {
         ..Proposals::empty(LAST_VIEW)
     };
     (bench.decided, bench.next) = (64, LAST_BEAT + 1);
-    assert_eq!(bench.begin(&names, &counts, LAST_BEAT), Err(20));
+    assert_eq!(bench.begin(&names, &counts, &totals, LAST_BEAT), Err(20));
     (bench.n, bench.own, bench.next) = (32, 31, LAST_BEAT);
-    assert_eq!(bench.begin(&names, &counts, LAST_BEAT), Ok(()));
+    assert_eq!(bench.begin(&names, &counts, &totals, LAST_BEAT), Ok(()));
 }
 
 #[test]
 fn the_other_refusals_have_their_order() {
-    let (mut bench, mut names, mut counts, mut out) = fresh();
+    let (mut bench, mut names, mut counts, mut totals, mut out) = fresh();
     let none = Block { name: 0, count: 0 };
-    assert_eq!(bench.begin(&names[1..], &counts, LAST_BEAT + 1), Err(8));
-    assert_eq!(bench.begin(&names, &counts, LAST_BEAT + 1), Err(10));
-    assert_eq!(bench.receive(&mut names, &mut counts[1..], &[]), Err(8));
-    assert_eq!(bench.receive(&mut names, &mut counts, &[]), Err(22));
-    assert_eq!(bench.act(&mut names[1..], &mut counts, &mut out[1..], none, 0), Err(8));
-    assert_eq!(bench.act(&mut names, &mut counts, &mut out[1..], none, 0), Err(11));
-    assert_eq!(bench.act(&mut names, &mut counts, &mut out, none, 0), Err(22));
+    assert_eq!(bench.begin(&names[1..], &counts, &totals, LAST_BEAT + 1), Err(8));
+    assert_eq!(bench.begin(&names, &counts, &totals[1..], LAST_BEAT + 1), Err(8));
+    assert_eq!(bench.begin(&names, &counts, &totals, LAST_BEAT + 1), Err(10));
+    assert_eq!(bench.receive(&mut names, &mut counts[1..], &totals, &[]), Err(8));
+    assert_eq!(bench.receive(&mut names, &mut counts, &totals[1..], &[]), Err(8));
+    assert_eq!(bench.receive(&mut names, &mut counts, &totals, &[]), Err(22));
+    let short = &mut out[1..];
+    assert_eq!(bench.act(&mut names[1..], &mut counts, &mut totals, short, none, 0), Err(8));
+    assert_eq!(bench.act(&mut names, &mut counts, &mut totals[1..], short, none, 0), Err(8));
+    assert_eq!(bench.act(&mut names, &mut counts, &mut totals, short, none, 0), Err(11));
+    assert_eq!(bench.act(&mut names, &mut counts, &mut totals, &mut out, none, 0), Err(22));
+    assert_eq!(bench.find(&names, &counts[1..], &totals, 0), Err(8));
+    assert_eq!(bench.find(&names, &counts, &totals[1..], 0), Err(8));
+    assert_eq!(bench.find(&names, &counts, &totals, 0), Err(23));
     bench.gathering = true;
-    assert_eq!(bench.act(&mut names, &mut counts, &mut out, none, 0), Err(22));
+    assert_eq!(bench.act(&mut names, &mut counts, &mut totals, &mut out, none, 0), Err(22));
 }
 
 #[test]

@@ -3,6 +3,7 @@ pub mod compare;
 pub mod crowd;
 pub mod damaged;
 pub mod draft;
+pub mod entries;
 pub mod loose;
 pub mod random;
 pub mod shaped;

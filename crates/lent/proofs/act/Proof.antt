@@ -25,7 +25,7 @@ use denote.Memory.{mem, lone}
 use denote.Ref.{RefT, MutRef, ptr-vals, mut-tells}
 use denote.Slice.{sliceVal, slice-vals, MutSlice, finally, mut-slice-tells}
 use denote.Plain.{uint-vals, uint-tells}
-use denote.Builtin.{u8, u16, u64}
+use denote.Builtin.{u8, u16, u32, u64}
 use denote.Signature.{plain}
 use denote.Exit.{yes}
 use denote.Steps.{owned, peeks, heard, nothing}
@@ -73,8 +73,11 @@ stayed = (
     (
       gave-slice (2 ∷ []) tt (plain (λ _. u16)),
       (
-        gave-slice (3 ∷ []) tt (plain (λ _. u8)),
-        (stay-dropped (plain (λ _. u64)) yes, (stay-dropped (plain (λ _. u16)) yes, (stay-dropped (plain (λ _. u64)) yes, tt))),
+        gave-slice (3 ∷ []) tt (plain (λ _. u32)),
+        (
+          gave-slice (4 ∷ []) tt (plain (λ _. u8)),
+          (stay-dropped (plain (λ _. u64)) yes, (stay-dropped (plain (λ _. u16)) yes, (stay-dropped (plain (λ _. u64)) yes, tt))),
+        ),
       ),
     ),
   ),
@@ -85,8 +88,8 @@ module _ {M : Type 1} (𝓤 : URA M) (H : Heap 𝓤) (A : Atoms 𝓤) (at-mem : 
   Callee = tripleOf 𝓤 H A callee.signature (callee.spec 𝓤 H A at-mem run)
 
 module _ {M : Type 1} (𝓤 : URA M) (H : Heap 𝓤) (A : Atoms 𝓤) (W : Given 𝓤 H A) (at-mem : Memory → SProp 𝓤) (run : Routine → Fun 𝓤)
-    (κ κ₁ κ₂ κ₃ : Lft)
-    (q q₁ q₂ q₃ : Share) (b o : ℕ) (γ : GName) (h : Bench) (x₁ x₂ x₃ : RefT (List ℕ)) (x₄ x₅ x₆ : ℕ) where
+    (κ κ₁ κ₂ κ₃ κ₄ : Lft)
+    (q q₁ q₂ q₃ q₄ : Share) (b o : ℕ) (γ : GName) (h : Bench) (x₁ x₂ x₃ x₄ : RefT (List ℕ)) (x₅ x₆ x₇ : ℕ) where
   abbrev s₁ : Val
   s₁ = sliceVal (x₁ .ptr) (length (x₁ .now))
 
@@ -97,91 +100,88 @@ module _ {M : Type 1} (𝓤 : URA M) (H : Heap 𝓤) (A : Atoms 𝓤) (W : Given
   s₃ = sliceVal (x₃ .ptr) (length (x₃ .now))
 
   abbrev s₄ : Val
-  s₄ = vint w64 x₄
+  s₄ = sliceVal (x₄ .ptr) (length (x₄ .now))
 
   abbrev s₅ : Val
-  s₅ = vint w16 x₅
+  s₅ = vint w64 x₅
 
   abbrev s₆ : Val
-  s₆ = vint w64 x₆
+  s₆ = vint w16 x₆
 
-  abbrev passed : RefT Bench × (RefT (List ℕ) × (RefT (List ℕ) × (RefT (List ℕ) × (ℕ × (ℕ × (ℕ × Unit {0}))))))
-  passed = (record { ptr = (b, o); name = γ; now = h }, (x₁, (x₂, (x₃, (x₄, (x₅, (x₆, tt)))))))
+  abbrev s₇ : Val
+  s₇ = vint w64 x₇
 
-  abbrev at : List Val × (List Val × (List Val × (List Val × (List Val × (List Val × (List Val × Unit {0}))))))
-  at = (vptr b o ∷ [], (s₁ ∷ [], (s₂ ∷ [], (s₃ ∷ [], (s₄ ∷ [], (s₅ ∷ [], (s₆ ∷ [], tt)))))))
+  abbrev passed : RefT Bench × (RefT (List ℕ) × (RefT (List ℕ) × (RefT (List ℕ) × (RefT (List ℕ) × (ℕ × (ℕ × (ℕ × Unit {0})))))))
+  passed = (record { ptr = (b, o); name = γ; now = h }, (x₁, (x₂, (x₃, (x₄, (x₅, (x₆, (x₇, tt))))))))
 
-  abbrev κs : Lft × (Lft × (Lft × (Lft × Unit {0})))
-  κs = (κ, (κ₁, (κ₂, (κ₃, tt))))
+  abbrev at : List Val × (List Val × (List Val × (List Val × (List Val × (List Val × (List Val × (List Val × Unit {0})))))))
+  at = (vptr b o ∷ [], (s₁ ∷ [], (s₂ ∷ [], (s₃ ∷ [], (s₄ ∷ [], (s₅ ∷ [], (s₆ ∷ [], (s₇ ∷ [], tt))))))))
 
-  abbrev qs : Share × (Share × (Share × (Share × Unit {0})))
-  qs = (q, (q₁, (q₂, (q₃, tt))))
+  abbrev κs : Lft × (Lft × (Lft × (Lft × (Lft × Unit {0}))))
+  κs = (κ, (κ₁, (κ₂, (κ₃, (κ₄, tt)))))
 
-  abbrev Does : Acted → List ℕ → List ℕ → List ℕ → Type 0
-  Does r ns cs os = ActGives (actOf (stateOf h (x₁ .now) (x₂ .now)) (record { name = x₄; count = x₅ }) x₆ (x₃ .now)) (r .answer)
-      (benchOf (r .bench)) ns cs os
+  abbrev qs : Share × (Share × (Share × (Share × (Share × Unit {0}))))
+  qs = (q, (q₁, (q₂, (q₃, (q₄, tt)))))
+
+  abbrev Does : Acted → List ℕ → List ℕ → List ℕ → List ℕ → Type 0
+  Does r ns cs ts os = ActGives (actOf (stateOf h (x₁ .now) (x₂ .now) (x₃ .now)) (record { name = x₅; count = x₆ }) x₇ (x₄ .now))
+      (r .answer) (benchOf (r .bench)) ns cs ts os
 
   abbrev Post : Val → SProp 𝓤
   Post = walkOf 𝓤 H A here.ended stayed (here.clauses 𝓤 H A at-mem run) .post ((κs, qs, tt, passed, at), tt)
 
   -- the tokens of the lists' lifetimes
   abbrev toks : Item 𝓤
-  toks = ‵ (flft κ₁ q₁) ⊛ ‵ (flft κ₂ q₂) ⊛ ‵ (flft κ₃ q₃) ⊛ ‵ ftrue
+  toks = ‵ (flft κ₁ q₁) ⊛ ‵ (flft κ₂ q₂) ⊛ ‵ (flft κ₃ q₃) ⊛ ‵ (flft κ₄ q₄) ⊛ ‵ ftrue
 
   -- all else that is passed on to the callee
   abbrev Rest : Fml
-  Rest = owns (MutSlice (named 0) κ₁ u64 ∷ MutSlice (named 1) κ₂ u16 ∷ MutSlice (named 2) κ₃ u8 ∷ u64 ∷ u16 ∷ u64 ∷ [])
-      (x₁, (x₂, (x₃, (x₄, (x₅, (x₆, tt)))))) (
-        s₁
-            ∷ [],
-        (s₂ ∷ [], (s₃ ∷ [], (s₄ ∷ [], (s₅ ∷ [], (s₆ ∷ [], tt))))),
-      )
+  Rest = owns (MutSlice (named 0) κ₁ u64 ∷ MutSlice (named 1) κ₂ u16 ∷ MutSlice (named 2) κ₃ u32 ∷ MutSlice (named 3) κ₄ u8 ∷ u64 ∷ u16
+      ∷ u64 ∷ []) (x₁, (x₂, (x₃, (x₄, (x₅, (x₆, (x₇, tt)))))))
+      (s₁ ∷ [], (s₂ ∷ [], (s₃ ∷ [], (s₄ ∷ [], (s₅ ∷ [], (s₆ ∷ [], (s₇ ∷ [], tt)))))))
 
   -- what is left when the borrow is closed at the record of m
-  abbrev leaving : Acted → List ℕ → List ℕ → List ℕ → List (Item 𝓤)
-  leaving m ns cs os = ‵ (fobs γ (T.the-row .coded .code (m .bench))) ∷ ‵ (fbor κ (Body (mem T.the-row) b o γ)) ∷ ‵ (flft κ q) ∷ toks ∷ ‵
+  abbrev leaving : Acted → List ℕ → List ℕ → List ℕ → List ℕ → List (Item 𝓤)
+  leaving m ns cs ts os = ‵ (fobs γ (T.the-row .coded .code (m .bench))) ∷ ‵ (fbor κ (Body (mem T.the-row) b o γ)) ∷ ‵ (flft κ q) ∷ toks ∷ ‵
       (finally u64 (x₁ .name) ns)
-      ∷ ‵ (finally u16 (x₂ .name) cs) ∷ ‵ (finally u8 (x₃ .name) os) ∷ []
+      ∷ ‵ (finally u16 (x₂ .name) cs) ∷ ‵ (finally u32 (x₃ .name) ts) ∷ ‵ (finally u8 (x₄ .name) os) ∷ []
 
-  exits : (m : Acted) (ns : List ℕ) (cs : List ℕ) (os : List ℕ) → Does m ns cs os → length ns ≡ length (x₁ .now)
-      → length cs ≡ length (x₂ .now)
-      → length os ≡ length (x₃ .now) → Is S.the-row (m .answer) (answerVal m ∷ [])
-      → ent 𝓤 (⋆ 𝓤 H A (leaving m ns cs os)) (Post (answerVal m))
-  exits m ns cs os e l₁ l₂ l₃ fits =
-      qed W (leaving m ns cs os) ∵
+  exits : (m : Acted) (ns : List ℕ) (cs : List ℕ) (ts : List ℕ) (os : List ℕ) → Does m ns cs ts os → length ns ≡ length (x₁ .now)
+      → length cs ≡ length (x₂ .now) → length ts ≡ length (x₃ .now)
+      → length os ≡ length (x₄ .now) → Is S.the-row (m .answer) (answerVal m ∷ [])
+      → ent 𝓤 (⋆ 𝓤 H A (leaving m ns cs ts os)) (Post (answerVal m))
+  exits m ns cs ts os e l₁ l₂ l₃ l₄ fits =
+      qed W (leaving m ns cs ts os) ∵
       suffices ! _ (ends-at 𝓤 H A here.ended stayed (here.clauses 𝓤 H A at-mem run) W ((κs, qs, tt, passed, at), tt) (answerVal m)
       (m .answer)
-      (m .bench, (ns, (cs, (os, (tt, (tt, (tt, tt))))))) (tt, (l₁, (l₂, (l₃, (tt, (tt, (tt, tt)))))))) $ says ! e $
+      (m .bench, (ns, (cs, (ts, (os, (tt, (tt, (tt, tt)))))))) (tt, (l₁, (l₂, (l₃, (l₄, (tt, (tt, (tt, tt))))))))) $ says ! e $
       move ! (2 ∷ 3 ∷ []) $ join ! $ frame ! $
-      -- [obs; the borrow; the last names; the last counts; the last out]
+      -- [obs; the borrow; the last names; the last counts; the last totals; the last out]
       feqI ! (List Val) (vptr b o ∷ [])
       (vptr b o ∷ []) refl $ fjoin3 ! $ nothing ! $ nothing ! $ fjoin ! $ nothing ! $ fjoin ! $ nothing ! $ fjoin ! $
-      move ! (4 ∷ 0 ∷ []) $ fjoin ! $ move ! (3 ∷ 0 ∷ []) $ fjoin ! $ move ! (2 ∷ 0 ∷ []) $ fjoin ! $ move ! (1 ∷ 0 ∷ []) $ fjoin ! $
+      move ! (5 ∷ 0 ∷ []) $ fjoin ! $ move ! (4 ∷ 0 ∷ []) $ fjoin ! $ move ! (3 ∷ 0 ∷ []) $ fjoin ! $ move ! (2 ∷ 0 ∷ []) $ fjoin ! $
+      move ! (1 ∷ 0 ∷ []) $ fjoin ! $
       owned ! S.the-row (Is S.the-row) (LE.makes S.the-type S′.the-plain 𝓤 H A) (m .answer) _ fits $ move ! (1 ∷ 0 ∷ []) $ done !
 
   -- the call, as it is made, with the record's copy at v; what it ensures, and the last values that it binds
   abbrev asked : Val → Callee 𝓤 H A at-mem run .Ghost
   asked v = (
     (
-      (κ₁, (κ₂, (κ₃, tt))),
-      (q₁, (q₂, (q₃, tt))),
+      (κ₁, (κ₂, (κ₃, (κ₄, tt)))),
+      (q₁, (q₂, (q₃, (q₄, tt)))),
       tt,
-      (h, (x₁, (x₂, (x₃, (x₄, (x₅, (x₆, tt))))))),
-      (
-        v
-            ∷ [],
-        (s₁ ∷ [], (s₂ ∷ [], (s₃ ∷ [], (s₄ ∷ [], (s₅ ∷ [], (s₆ ∷ [], tt)))))),
-      ),
+      (h, (x₁, (x₂, (x₃, (x₄, (x₅, (x₆, (x₇, tt)))))))),
+      (v ∷ [], (s₁ ∷ [], (s₂ ∷ [], (s₃ ∷ [], (s₄ ∷ [], (s₅ ∷ [], (s₆ ∷ [], (s₇ ∷ [], tt)))))))),
     ),
     tt,
   )
 
   abbrev Ensured : Acted → SProp 𝓤
-  Ensured r = ensured 𝓤 H A callee.ended (callee.clauses 𝓤 H A at-mem run) (κ₁, (κ₂, (κ₃, tt)))
-      (h, (x₁, (x₂, (x₃, (x₄, (x₅, (x₆, tt))))))) tt r
+  Ensured r = ensured 𝓤 H A callee.ended (callee.clauses 𝓤 H A at-mem run) (κ₁, (κ₂, (κ₃, (κ₄, tt))))
+      (h, (x₁, (x₂, (x₃, (x₄, (x₅, (x₆, (x₇, tt)))))))) tt r
 
   abbrev Lasts : Type 0
-  Lasts = Unit {0} × (List ℕ × (List ℕ × (List ℕ × (Unit {0} × (Unit {0} × (Unit {0} × Unit {0}))))))
+  Lasts = Unit {0} × (List ℕ × (List ℕ × (List ℕ × (List ℕ × (Unit {0} × (Unit {0} × (Unit {0} × Unit {0})))))))
 
   asks : (v : Val) → ent 𝓤 (⋆ 𝓤 H A (toks ∷ ‵ (T.the-row .own h (v ∷ [])) ∷ ‵ Rest ∷ [])) (Callee 𝓤 H A at-mem run .pre (asked v))
   asks v = qed W (toks ∷ ‵ (T.the-row .own h (v ∷ [])) ∷ ‵ Rest ∷ []) ∵ move ! (1 ∷ 2 ∷ []) $ fjoin ! $ move !
@@ -199,99 +199,112 @@ module _ {M : Type 1} (𝓤 : URA M) (H : Heap 𝓤) (A : Atoms 𝓤) (W : Given
       }
 
   module _ (C : Calls 𝓤 H) (Λ : Loops 𝓤 H) (fm : FmC 𝓤 H (W .laws) C) (known : Triple 𝓤 (C #callee) (Callee 𝓤 H A at-mem run)) where
-    walk : length (x₁ .now) < 2 ^ 64 → length (x₂ .now) < 2 ^ 64 → length (x₃ .now) < 2 ^ 64 → x₄ < 2 ^ 64 → x₅ < 2 ^ 16 → x₆ < 2 ^ 64
-        → ent 𝓤 (onEntry 𝓤 H A here.signature κs qs passed at)
-        (WpFn 𝓤 H C Λ code.function (vptr b o ∷ s₁ ∷ s₂ ∷ s₃ ∷ s₄ ∷ s₅ ∷ s₆ ∷ []) Post)
-    walk r₁ r₂ r₃ r₄ r₅ r₆ =
-        qed W ((‵ (flft κ q) ⊛ ‵ (flft κ₁ q₁) ⊛ ‵ (flft κ₂ q₂) ⊛ ‵ (flft κ₃ q₃) ⊛ ‵ ftrue)
+    walk : length (x₁ .now) < 2 ^ 64 → length (x₂ .now) < 2 ^ 64 → length (x₃ .now) < 2 ^ 64 → length (x₄ .now) < 2 ^ 64 → x₅ < 2 ^ 64
+        → x₆ < 2 ^ 16 → x₇ < 2 ^ 64 → ent 𝓤 (onEntry 𝓤 H A here.signature κs qs passed at)
+        (WpFn 𝓤 H C Λ code.function (vptr b o ∷ s₁ ∷ s₂ ∷ s₃ ∷ s₄ ∷ s₅ ∷ s₆ ∷ s₇ ∷ []) Post)
+    walk r₁ r₂ r₃ r₄ r₅ r₆ r₇ =
+        qed W ((‵ (flft κ q) ⊛ ‵ (flft κ₁ q₁) ⊛ ‵ (flft κ₂ q₂) ⊛ ‵ (flft κ₃ q₃) ⊛ ‵ (flft κ₄ q₄) ⊛ ‵ ftrue)
         ∷ ‵ (owns (MutRef (named 0) κ (T.the-row) ∷ MutSlice (named 1) κ₁ u64 ∷ MutSlice (named 2) κ₂ u16 ∷ MutSlice
-        (named 3) κ₃ u8 ∷ u64 ∷ u16 ∷ u64
+        (named 3) κ₃ u32 ∷ MutSlice (named 4) κ₄ u8 ∷ u64 ∷ u16 ∷ u64
         ∷ []) passed at) ∷ []) ∵ split ! $ move ! (2 ∷ []) $ fsplit ! $ fsplit3 ! $ drop ! $
         -- [obs; the borrow; the token; what else was passed; the other tokens]
         move ! (0 ∷ 1 ∷ 3 ∷ 2 ∷ 4 ∷ []) $
-        enter ! C Λ code.function (vptr b o ∷ s₁ ∷ s₂ ∷ s₃ ∷ s₄ ∷ s₅ ∷ s₆ ∷ []) _ $
+        enter ! C Λ code.function (vptr b o ∷ s₁ ∷ s₂ ∷ s₃ ∷ s₄ ∷ s₅ ∷ s₆ ∷ s₇ ∷ []) _ $
         alloc1 ! (λ l₀. alloc1 ! (λ l₁. alloc1 ! (λ l₂. alloc1 ! (λ l₃. alloc1 ! (λ l₄. alloc1 ! (λ l₅.
         alloc1 ! (λ l₆. alloc1 ! (λ l₇. alloc1 ! (λ l₈. alloc1 ! (λ l₉. alloc1 ! (λ l₁₀. alloc1 ! (λ l₁₁.
-        alloc1 ! (λ l₁₂. alloc1 ! (λ l₁₃. alloc1 ! (λ l₁₄. alloc1 ! (λ l₁₅. alloc0 ! $ params1 ! $
-        pass1 ! (init ! 28 refl (tt, tt)) $ pass1 ! (init ! 26 refl (tt, (tt, (record { fits = r₁ }, tt)))) $
-        pass1 ! (init ! 24 refl (tt, (tt, (record { fits = r₂ }, tt)))) $ pass1 ! (init ! 22 refl (tt, (tt, (record { fits = r₃ }, tt)))) $
-        pass1 ! (init ! 20 refl (tt, record { fits = r₄ })) $ pass1 ! (init ! 18 refl (tt, record { fits = r₅ })) $
-        pass1 ! (init ! 16 refl (tt, record { fits = r₆ })) $ pass0 ! $
-        -- obs, the borrow, its token, _1, _9
-        move ! (32 ∷ 33 ∷ 34 ∷ 28 ∷ 12 ∷ []) $ copied-out ! h refl refl (λ is.
-        -- _2, _10, _11
-        move ! (31 ∷ 16 ∷ 14 ∷ []) $ lent-on ! r₁ refl refl refl $
-        -- _3, _12, _13
-        move ! (30 ∷ 15 ∷ 13 ∷ []) $ lent-on ! r₂ refl refl refl $
-        -- _4, _14, _15
-        move ! (29 ∷ 14 ∷ 12 ∷ []) $ lent-on ! r₃ refl refl refl $
+        alloc1 ! (λ l₁₂. alloc1 ! (λ l₁₃. alloc1 ! (λ l₁₄. alloc1 ! (λ l₁₅. alloc1 ! (λ l₁₆. alloc1 ! (λ l₁₇.
+        alloc1 ! (λ l₁₈. alloc0 ! $ params1 ! $
+        pass1 ! (init ! 34 refl (tt, tt)) $ pass1 ! (init ! 32 refl (tt, (tt, (record { fits = r₁ }, tt)))) $
+        pass1 ! (init ! 30 refl (tt, (tt, (record { fits = r₂ }, tt)))) $ pass1 ! (init ! 28 refl (tt, (tt, (record { fits = r₃ }, tt)))) $
+        pass1 ! (init ! 26 refl (tt, (tt, (record { fits = r₄ }, tt)))) $
+        pass1 ! (init ! 24 refl (tt, record { fits = r₅ })) $ pass1 ! (init ! 22 refl (tt, record { fits = r₆ })) $
+        pass1 ! (init ! 20 refl (tt, record { fits = r₇ })) $ pass0 ! $
+        -- obs, the borrow, its token, _1, _10
+        move ! (38 ∷ 39 ∷ 40 ∷ 34 ∷ 16 ∷ []) $ copied-out ! h refl refl (λ is.
+        -- _2, _11, _12
+        move ! (37 ∷ 20 ∷ 18 ∷ []) $ lent-on ! r₁ refl refl refl $
+        -- _3, _13, _14
+        move ! (36 ∷ 19 ∷ 17 ∷ []) $ lent-on ! r₂ refl refl refl $
+        -- _4, _15, _16
+        move ! (35 ∷ 18 ∷ 16 ∷ []) $ lent-on ! r₃ refl refl refl $
+        -- _5, _17, _18
+        move ! (34 ∷ 17 ∷ 15 ∷ []) $ lent-on ! r₄ refl refl refl $
         -- the other tokens, the copy's, all else passed
-        owned ! T.the-row (Is T.the-row) ((LL.makes T.the-type T′.the-plain) 𝓤 H A) h _ is $ move ! (38 ∷ 0 ∷ 37 ∷ []) $
+        owned ! T.the-row (Is T.the-row) ((LL.makes T.the-type T′.the-plain) 𝓤 H A) h _ is $ move ! (44 ∷ 0 ∷ 43 ∷ []) $
         use3 W (raw (Callee 𝓤 H A at-mem run .pre (asked _))) (asks _) $
-        -- _9, _11, _13, _15, _5, _6, _7
+        -- _10, _12, _14, _16, _18, _6, _7, _8
         calls-at ! fm (Callee 𝓤 H A at-mem run) known (asked _)
-        (arg ! 15 refl (arg ! 9 refl (arg ! 6 refl (arg ! 3 refl (arg ! 29 refl (arg ! 27 refl (arg ! 25 refl (no-more !)))))))) (λ v.
+        (arg ! 18 refl (arg ! 12 refl (arg ! 9 refl (arg ! 6 refl (arg ! 3 refl (arg ! 34 refl (arg ! 32 refl (arg ! 30 refl
+        (no-more !))))))))) (λ v.
         use1 W (later (some (λ (r : Acted). (toks ⊛ ‵ (R.the-row .own r (v ∷ []))) ⊛ raw (Ensured r)))) (id⊢ 𝓤 _) $ await ! tt $ pick !
         (λ r. split ! $
         move ! (1 ∷ []) $
-        use1 W (some (λ (zs : Lasts). ‵ (lasts callee.ended (κ₁, (κ₂, (κ₃, tt))) (h, (x₁, (x₂, (x₃, (x₄, (x₅, (x₆, tt))))))) zs) ⊛ raw
+        use1 W (some (λ (zs : Lasts). ‵
+        (lasts callee.ended (κ₁, (κ₂, (κ₃, (κ₄, tt)))) (h, (x₁, (x₂, (x₃, (x₄, (x₅, (x₆, (x₇, tt)))))))) zs) ⊛ raw
         (fact 𝓤
-        (Does r (zs .1 .0) (zs .1 .1 .0) (zs .1 .1 .1 .0))))) (id⊢ 𝓤 _) $ pick ! (λ zs.
-        split ! $ move ! (1 ∷ []) $ heard ! (Does r (zs .1 .0) (zs .1 .1 .0) (zs .1 .1 .1 .0))
+        (Does r (zs .1 .0) (zs .1 .1 .0) (zs .1 .1 .1 .0) (zs .1 .1 .1 .1 .0))))) (id⊢ 𝓤 _) $ pick ! (λ zs.
+        split ! $ move ! (1 ∷ []) $ heard ! (Does r (zs .1 .0) (zs .1 .1 .0) (zs .1 .1 .1 .0) (zs .1 .1 .1 .1 .0))
         (λ e. fsplit ! $ drop ! $ fsplit ! $ fsplit ! $ move ! (1 ∷ []) $
         feqL ! (λ e₁. move ! (1 ∷ []) $ fsplit ! $ fsplit ! $ move ! (1 ∷ []) $ feqL !
-        (λ e₂. move ! (1 ∷ []) $ fsplit ! $ fsplit ! $ move ! (1 ∷ []) $
-        feqL ! (λ e₃.
-        move ! (4 ∷ []) $ split ! $ move ! (1 ∷ []) $ peeks ! R.the-row (Is R.the-row) (shows 𝓤 H A R.the-row) r (v ∷ []) (λ is′. drop ! $
-        -- the cell, the open borrow, obs, auth, _1, _8, _0
-        move ! (14 ∷ 15 ∷ 16 ∷ 17 ∷ 18 ∷ 27 ∷ 39 ∷ []) $ stored-back ! (r .bench) refl refl refl refl refl (gave r v is′) $
+        (λ e₂. move ! (1 ∷ []) $ fsplit ! $ fsplit ! $ move ! (1 ∷ []) $ feqL !
+        (λ e₃. move ! (1 ∷ []) $ fsplit ! $ fsplit ! $ move ! (1 ∷ []) $
+        feqL ! (λ e₄.
+        move ! (5 ∷ []) $ split ! $ move ! (1 ∷ []) $ peeks ! R.the-row (Is R.the-row) (shows 𝓤 H A R.the-row) r (v ∷ []) (λ is′. drop ! $
+        -- the cell, the open borrow, obs, auth, _1, _9, _0
+        move ! (18 ∷ 19 ∷ 20 ∷ 21 ∷ 22 ∷ 33 ∷ 46 ∷ []) $ stored-back ! (r .bench) refl refl refl refl refl (gave r v is′) $
         -- the locals, with what frees each
-        move ! (5 ∷ 39 ∷ 3 ∷ 38 ∷ 17 ∷ 37 ∷ 14 ∷ 36 ∷ 11 ∷ 35 ∷ 33 ∷ 34 ∷ 31 ∷ 32 ∷ 29 ∷ 30 ∷ 4 ∷ 28 ∷ 20 ∷ 27 ∷ 18 ∷ 26 ∷ 19 ∷ 25 ∷ 15 ∷ 24
-        ∷ 16 ∷ 23 ∷ 12 ∷ 22 ∷ 13
-        ∷ 21 ∷ []) $ freed ! $ freed ! $ freed ! $ freed ! $ freed ! $ freed ! $ freed ! $ freed ! $ freed ! $ freed ! $ freed ! $ freed ! $
+        move ! (5 ∷ 46 ∷ 3 ∷ 45 ∷ 21 ∷ 44 ∷ 18 ∷ 43 ∷ 15 ∷ 42 ∷ 12 ∷ 41 ∷ 39 ∷ 40 ∷ 37 ∷ 38 ∷ 35 ∷ 36 ∷ 4 ∷ 34 ∷ 24 ∷ 33 ∷ 22 ∷ 32 ∷ 23 ∷ 31
+        ∷ 19 ∷ 30 ∷ 20 ∷ 29 ∷ 16 ∷ 28 ∷ 17 ∷ 27 ∷ 13 ∷ 26 ∷ 14 ∷ 25 ∷ []) $ freed ! $ freed ! $ freed ! $
+        freed ! $ freed ! $ freed ! $ freed ! $ freed ! $ freed ! $ freed ! $ freed ! $ freed ! $ freed ! $ freed ! $ freed ! $
         freed ! $ freed ! $
         freed ! $ freed ! $ free0 ! $
-        keep ! (0 ∷ 1 ∷ 2 ∷ 3 ∷ 7 ∷ 6 ∷ 4 ∷ []) $
-        by ! (exits r (zs .1 .0) (zs .1 .1 .0) (zs .1 .1 .1 .0) e e₁ e₂ e₃
-        (LL.owed R.the-type R′.the-laws r _ is′ .0)))))))))))))))))))))))))))
+        keep ! (0 ∷ 1 ∷ 2 ∷ 3 ∷ 8 ∷ 7 ∷ 6 ∷ 4 ∷ []) $
+        by ! (exits r (zs .1 .0) (zs .1 .1 .0) (zs .1 .1 .1 .0) (zs .1 .1 .1 .1 .0) e e₁ e₂ e₃ e₄
+        (LL.owed R.the-type R′.the-laws r _ is′ .0)))))))))))))))))))))))))))))))
 
 module _ {M : Type 1} (𝓤 : URA M) (H : Heap 𝓤) (A : Atoms 𝓤) (W : Given 𝓤 H A) (at-mem : Memory → SProp 𝓤) (run : Routine → Fun 𝓤) where
   walks : (C : Calls 𝓤 H) (Λ : Loops 𝓤 H) → FmC 𝓤 H (W .laws) C → Triple 𝓤 (C #callee) (Callee 𝓤 H A at-mem run)
       → Walks 𝓤 H A here.ended stayed (WpFn 𝓤 H C Λ code.function) (here.clauses 𝓤 H A at-mem run)
   walks C Λ fm known =
       walked 𝓤 H A here.ended stayed (here.clauses 𝓤 H A at-mem run) (WpFn 𝓤 H C Λ code.function)
-      (λ κs. (ptr-vals, (slice-vals, (slice-vals, (slice-vals, (uint-vals w64, (uint-vals w16, (uint-vals w64, tt))))))))
+      (λ κs. (ptr-vals, (slice-vals, (slice-vals, (slice-vals, (slice-vals, (uint-vals w64, (uint-vals w16, (uint-vals w64, tt)))))))))
       (λ κs. (
         mut-tells (named 0) (κs .0) (T.the-row),
         (
           mut-slice-tells (named 1) (κs .1 .0) u64,
           (
             mut-slice-tells (named 2) (κs .1 .1 .0) u16,
-            (mut-slice-tells (named 3) (κs .1 .1 .1 .0) u8, (uint-tells w64, (uint-tells w16, (uint-tells w64, tt)))),
+            (
+              mut-slice-tells (named 3) (κs .1 .1 .1 .0) u32,
+              (mut-slice-tells (named 4) (κs .1 .1 .1 .1 .0) u8, (uint-tells w64, (uint-tells w16, (uint-tells w64, tt)))),
+            ),
           ),
         ),
       ))
       (λ κs qs bounds a g are. via 𝓤 _ (fst∗ 𝓤 _ (emp 𝓤))
-      (walk 𝓤 H A W at-mem run (κs .0) (κs .1 .0) (κs .1 .1 .0) (κs .1 .1 .1 .0) (qs .0) (qs .1 .0) (qs .1 .1 .0)
-      (qs .1 .1 .1 .0) (a .0 .ptr .0) (a .0 .ptr .1) (a .0 .name) (a .0 .now) (a .1 .0) (a .1 .1 .0) (a .1 .1 .1 .0) (a .1 .1 .1 .1 .0)
-      (a .1 .1 .1 .1 .1 .0)
-      (a .1 .1 .1 .1 .1 .1 .0) C Λ fm known (are .1 .0 .0 .1 .0) (are .1 .1 .0 .0 .1 .0) (are .1 .1 .1 .0 .0 .1 .0) (are .1 .1 .1 .1 .0 .1)
-      (are .1 .1 .1 .1 .1 .0 .1) (are .1 .1 .1 .1 .1 .1 .0 .1)))
+      (walk 𝓤 H A W at-mem run (κs .0) (κs .1 .0) (κs .1 .1 .0) (κs .1 .1 .1 .0) (κs .1 .1 .1 .1 .0) (qs .0) (qs .1 .0)
+      (qs .1 .1 .0) (qs .1 .1 .1 .0) (qs .1 .1 .1 .1 .0) (a .0 .ptr .0) (a .0 .ptr .1) (a .0 .name) (a .0 .now) (a .1 .0) (a .1 .1 .0)
+      (a .1 .1 .1 .0) (a .1 .1 .1 .1 .0) (a .1 .1 .1 .1 .1 .0) (a .1 .1 .1 .1 .1 .1 .0)
+      (a .1 .1 .1 .1 .1 .1 .1 .0) C Λ fm known (are .1 .0 .0 .1 .0) (are .1 .1 .0 .0 .1 .0) (are .1 .1 .1 .0 .0 .1 .0)
+      (are .1 .1 .1 .1 .0 .0 .1 .0) (are .1 .1 .1 .1 .1 .0 .1) (are .1 .1 .1 .1 .1 .1 .0 .1) (are .1 .1 .1 .1 .1 .1 .1 .0 .1)))
 
-  goes : AllGo 𝓤 H A W 4 (here.signature .params) (here.ended .kept) stayed
+  goes : AllGo 𝓤 H A W 5 (here.signature .params) (here.ended .kept) stayed
   goes = (
-    goes-ref 𝓤 H A W 4 0 tt (plain (λ _. T.the-row)),
+    goes-ref 𝓤 H A W 5 0 tt (plain (λ _. T.the-row)),
     (
-      goes-gave-slice 𝓤 H A W 4 1 tt (plain (λ _. u64)),
+      goes-gave-slice 𝓤 H A W 5 1 tt (plain (λ _. u64)),
       (
-        goes-gave-slice 𝓤 H A W 4 2 tt (plain (λ _. u16)),
+        goes-gave-slice 𝓤 H A W 5 2 tt (plain (λ _. u16)),
         (
-          goes-gave-slice 𝓤 H A W 4 3 tt (plain (λ _. u8)),
+          goes-gave-slice 𝓤 H A W 5 3 tt (plain (λ _. u32)),
           (
-            goes-dropped 𝓤 H A W 4 (plain (λ _. u64)) yes (λ κs x f. refl),
+            goes-gave-slice 𝓤 H A W 5 4 tt (plain (λ _. u8)),
             (
-              goes-dropped 𝓤 H A W 4 (plain (λ _. u16)) yes (λ κs x f. refl),
-              (goes-dropped 𝓤 H A W 4 (plain (λ _. u64)) yes (λ κs x f. refl), tt),
+              goes-dropped 𝓤 H A W 5 (plain (λ _. u64)) yes (λ κs x f. refl),
+              (
+                goes-dropped 𝓤 H A W 5 (plain (λ _. u16)) yes (λ κs x f. refl),
+                (goes-dropped 𝓤 H A W 5 (plain (λ _. u64)) yes (λ κs x f. refl), tt),
+              ),
             ),
           ),
         ),

@@ -69,7 +69,10 @@ stayed = (
   stay-ref (0 ∷ []) tt (plain (λ _. T.the-row)),
   (
     stay-dropped (shrSliceOf (1 ∷ []) tt (plain (λ _. u64))) yes,
-    (stay-dropped (shrSliceOf (2 ∷ []) tt (plain (λ _. u16))) yes, (stay-dropped (plain (λ _. u32)) yes, tt)),
+    (
+      stay-dropped (shrSliceOf (2 ∷ []) tt (plain (λ _. u16))) yes,
+      (stay-dropped (shrSliceOf (3 ∷ []) tt (plain (λ _. u32))) yes, (stay-dropped (plain (λ _. u32)) yes, tt)),
+    ),
   ),
 )
 
@@ -78,8 +81,8 @@ module _ {M : Type 1} (𝓤 : URA M) (H : Heap 𝓤) (A : Atoms 𝓤) (at-mem : 
   Callee = tripleOf 𝓤 H A callee.signature (callee.spec 𝓤 H A at-mem run)
 
 module _ {M : Type 1} (𝓤 : URA M) (H : Heap 𝓤) (A : Atoms 𝓤) (W : Given 𝓤 H A) (at-mem : Memory → SProp 𝓤) (run : Routine → Fun 𝓤)
-    (κ κ₁ κ₂ : Lft) (q q₁ q₂ : Share)
-    (b o : ℕ) (γ : GName) (h : Bench) (x₁ x₂ : RefT (List ℕ)) (x₃ : ℕ) where
+    (κ κ₁ κ₂ κ₃ : Lft)
+    (q q₁ q₂ q₃ : Share) (b o : ℕ) (γ : GName) (h : Bench) (x₁ x₂ x₃ : RefT (List ℕ)) (x₄ : ℕ) where
   abbrev s₁ : Val
   s₁ = sliceVal (x₁ .ptr) (length (x₁ .now))
 
@@ -87,33 +90,37 @@ module _ {M : Type 1} (𝓤 : URA M) (H : Heap 𝓤) (A : Atoms 𝓤) (W : Given
   s₂ = sliceVal (x₂ .ptr) (length (x₂ .now))
 
   abbrev s₃ : Val
-  s₃ = vint w32 x₃
+  s₃ = sliceVal (x₃ .ptr) (length (x₃ .now))
 
-  abbrev passed : RefT Bench × (RefT (List ℕ) × (RefT (List ℕ) × (ℕ × Unit {0})))
-  passed = (record { ptr = (b, o); name = γ; now = h }, (x₁, (x₂, (x₃, tt))))
+  abbrev s₄ : Val
+  s₄ = vint w32 x₄
 
-  abbrev at : List Val × (List Val × (List Val × (List Val × Unit {0})))
-  at = (vptr b o ∷ [], (s₁ ∷ [], (s₂ ∷ [], (s₃ ∷ [], tt))))
+  abbrev passed : RefT Bench × (RefT (List ℕ) × (RefT (List ℕ) × (RefT (List ℕ) × (ℕ × Unit {0}))))
+  passed = (record { ptr = (b, o); name = γ; now = h }, (x₁, (x₂, (x₃, (x₄, tt)))))
 
-  abbrev κs : Lft × (Lft × (Lft × Unit {0}))
-  κs = (κ, (κ₁, (κ₂, tt)))
+  abbrev at : List Val × (List Val × (List Val × (List Val × (List Val × Unit {0}))))
+  at = (vptr b o ∷ [], (s₁ ∷ [], (s₂ ∷ [], (s₃ ∷ [], (s₄ ∷ [], tt)))))
 
-  abbrev qs : Share × (Share × (Share × Unit {0}))
-  qs = (q, (q₁, (q₂, tt)))
+  abbrev κs : Lft × (Lft × (Lft × (Lft × Unit {0})))
+  κs = (κ, (κ₁, (κ₂, (κ₃, tt))))
+
+  abbrev qs : Share × (Share × (Share × (Share × Unit {0})))
+  qs = (q, (q₁, (q₂, (q₃, tt))))
 
   abbrev Does : Started → Type 0
-  Does r = BeginGives (beginOf (stateOf h (x₁ .now) (x₂ .now)) x₃) (r .answer) (benchOf (r .bench)) (x₁ .now) (x₂ .now)
+  Does r = BeginGives (beginOf (stateOf h (x₁ .now) (x₂ .now) (x₃ .now)) x₄) (r .answer) (benchOf (r .bench)) (x₁ .now) (x₂ .now) (x₃ .now)
 
   abbrev Post : Val → SProp 𝓤
   Post = walkOf 𝓤 H A here.ended stayed (here.clauses 𝓤 H A at-mem run) .post ((κs, qs, tt, passed, at), tt)
 
   -- the tokens of the lists' lifetimes
   abbrev toks : Item 𝓤
-  toks = ‵ (flft κ₁ q₁) ⊛ ‵ (flft κ₂ q₂) ⊛ ‵ ftrue
+  toks = ‵ (flft κ₁ q₁) ⊛ ‵ (flft κ₂ q₂) ⊛ ‵ (flft κ₃ q₃) ⊛ ‵ ftrue
 
   -- all else that is passed on to the callee
   abbrev Rest : Fml
-  Rest = owns (ShrSlice (named 0) κ₁ u64 ∷ ShrSlice (named 1) κ₂ u16 ∷ u32 ∷ []) (x₁, (x₂, (x₃, tt))) (s₁ ∷ [], (s₂ ∷ [], (s₃ ∷ [], tt)))
+  Rest = owns (ShrSlice (named 0) κ₁ u64 ∷ ShrSlice (named 1) κ₂ u16 ∷ ShrSlice (named 2) κ₃ u32 ∷ u32 ∷ []) (x₁, (x₂, (x₃, (x₄, tt))))
+      (s₁ ∷ [], (s₂ ∷ [], (s₃ ∷ [], (s₄ ∷ [], tt))))
 
   -- what is left when the borrow is closed at the record of m
   abbrev leaving : Started → List (Item 𝓤)
@@ -124,23 +131,32 @@ module _ {M : Type 1} (𝓤 : URA M) (H : Heap 𝓤) (A : Atoms 𝓤) (W : Given
       qed W (leaving m) ∵
       suffices ! _ (ends-at 𝓤 H A here.ended stayed (here.clauses 𝓤 H A at-mem run) W ((κs, qs, tt, passed, at), tt) (answerVal m)
       (m .answer)
-      (m .bench, (tt, (tt, (tt, tt)))) (tt, (tt, (tt, (tt, tt))))) $ says ! e $
+      (m .bench, (tt, (tt, (tt, (tt, tt))))) (tt, (tt, (tt, (tt, (tt, tt)))))) $ says ! e $
       move ! (2 ∷ 3 ∷ []) $ join ! $ frame ! $
       -- [obs; the borrow]
       feqI ! (List Val) (vptr b o ∷ [])
-      (vptr b o ∷ []) refl $ fjoin3 ! $ nothing ! $ nothing ! $ fjoin ! $ nothing ! $ fjoin ! $ nothing ! $ fjoin ! $
+      (vptr b o ∷ []) refl $ fjoin3 ! $ nothing ! $ nothing ! $ fjoin ! $ nothing ! $ fjoin ! $ nothing ! $ fjoin ! $ nothing ! $ fjoin ! $
       move ! (1 ∷ 0 ∷ []) $ fjoin ! $
       owned ! S.the-row (Is S.the-row) (LE.makes S.the-type S′.the-plain 𝓤 H A) (m .answer) _ fits $ move ! (1 ∷ 0 ∷ []) $ done !
 
   -- the call, as it is made, with the record's copy at v; what it ensures, and the last values that it binds
   abbrev asked : Val → Callee 𝓤 H A at-mem run .Ghost
-  asked v = (((κ₁, (κ₂, tt)), (q₁, (q₂, tt)), tt, (h, (x₁, (x₂, (x₃, tt)))), (v ∷ [], (s₁ ∷ [], (s₂ ∷ [], (s₃ ∷ [], tt))))), tt)
+  asked v = (
+    (
+      (κ₁, (κ₂, (κ₃, tt))),
+      (q₁, (q₂, (q₃, tt))),
+      tt,
+      (h, (x₁, (x₂, (x₃, (x₄, tt))))),
+      (v ∷ [], (s₁ ∷ [], (s₂ ∷ [], (s₃ ∷ [], (s₄ ∷ [], tt))))),
+    ),
+    tt,
+  )
 
   abbrev Ensured : Started → SProp 𝓤
-  Ensured r = ensured 𝓤 H A callee.ended (callee.clauses 𝓤 H A at-mem run) (κ₁, (κ₂, tt)) (h, (x₁, (x₂, (x₃, tt)))) tt r
+  Ensured r = ensured 𝓤 H A callee.ended (callee.clauses 𝓤 H A at-mem run) (κ₁, (κ₂, (κ₃, tt))) (h, (x₁, (x₂, (x₃, (x₄, tt))))) tt r
 
   abbrev Lasts : Type 0
-  Lasts = Unit {0} × (Unit {0} × (Unit {0} × (Unit {0} × Unit {0})))
+  Lasts = Unit {0} × (Unit {0} × (Unit {0} × (Unit {0} × (Unit {0} × Unit {0}))))
 
   asks : (v : Val) → ent 𝓤 (⋆ 𝓤 H A (toks ∷ ‵ (T.the-row .own h (v ∷ [])) ∷ ‵ Rest ∷ [])) (Callee 𝓤 H A at-mem run .pre (asked v))
   asks v = qed W (toks ∷ ‵ (T.the-row .own h (v ∷ [])) ∷ ‵ Rest ∷ []) ∵ move ! (1 ∷ 2 ∷ []) $ fjoin ! $ move !
@@ -158,66 +174,73 @@ module _ {M : Type 1} (𝓤 : URA M) (H : Heap 𝓤) (A : Atoms 𝓤) (W : Given
       }
 
   module _ (C : Calls 𝓤 H) (Λ : Loops 𝓤 H) (fm : FmC 𝓤 H (W .laws) C) (known : Triple 𝓤 (C #callee) (Callee 𝓤 H A at-mem run)) where
-    walk : length (x₁ .now) < 2 ^ 64 → length (x₂ .now) < 2 ^ 64 → x₃ < 2 ^ 32
-        → ent 𝓤 (onEntry 𝓤 H A here.signature κs qs passed at) (WpFn 𝓤 H C Λ code.function (vptr b o ∷ s₁ ∷ s₂ ∷ s₃ ∷ []) Post)
-    walk r₁ r₂ r₃ =
-        qed W ((‵ (flft κ q) ⊛ ‵ (flft κ₁ q₁) ⊛ ‵ (flft κ₂ q₂) ⊛ ‵ ftrue)
-        ∷ ‵ (owns (MutRef (named 0) κ (T.the-row) ∷ ShrSlice (named 1) κ₁ u64 ∷ ShrSlice (named 2) κ₂ u16 ∷ u32 ∷ []) passed at) ∷ []) ∵
+    walk : length (x₁ .now) < 2 ^ 64 → length (x₂ .now) < 2 ^ 64 → length (x₃ .now) < 2 ^ 64 → x₄ < 2 ^ 32
+        → ent 𝓤 (onEntry 𝓤 H A here.signature κs qs passed at) (WpFn 𝓤 H C Λ code.function (vptr b o ∷ s₁ ∷ s₂ ∷ s₃ ∷ s₄ ∷ []) Post)
+    walk r₁ r₂ r₃ r₄ =
+        qed W ((‵ (flft κ q) ⊛ ‵ (flft κ₁ q₁) ⊛ ‵ (flft κ₂ q₂) ⊛ ‵ (flft κ₃ q₃) ⊛ ‵ ftrue)
+        ∷ ‵ (owns (MutRef (named 0) κ (T.the-row) ∷ ShrSlice (named 1) κ₁ u64 ∷ ShrSlice (named 2) κ₂ u16 ∷ ShrSlice (named 3) κ₃ u32 ∷ u32
+        ∷ []) passed at) ∷ []) ∵
         split ! $
         move ! (2 ∷ []) $ fsplit ! $ fsplit3 ! $ drop ! $
         -- [obs; the borrow; the token; what else was passed; the other tokens]
         move ! (0 ∷ 1 ∷ 3 ∷ 2 ∷ 4 ∷ []) $
-        enter ! C Λ code.function (vptr b o ∷ s₁ ∷ s₂ ∷ s₃ ∷ []) _ $
+        enter ! C Λ code.function (vptr b o ∷ s₁ ∷ s₂ ∷ s₃ ∷ s₄ ∷ []) _ $
         alloc1 ! (λ l₀. alloc1 ! (λ l₁. alloc1 ! (λ l₂. alloc1 ! (λ l₃. alloc1 ! (λ l₄. alloc1 ! (λ l₅.
-        alloc1 ! (λ l₆. alloc0 ! $ params1 ! $
-        pass1 ! (init ! 10 refl (tt, tt)) $ pass1 ! (init ! 8 refl (tt, (tt, (record { fits = r₁ }, tt)))) $
-        pass1 ! (init ! 6 refl (tt, (tt, (record { fits = r₂ }, tt)))) $ pass1 ! (init ! 4 refl (tt, record { fits = r₃ })) $ pass0 ! $
-        -- obs, the borrow, its token, _1, _6
-        move ! (14 ∷ 15 ∷ 16 ∷ 10 ∷ 0 ∷ []) $ copied-out ! h refl refl (λ is.
+        alloc1 ! (λ l₆. alloc1 ! (λ l₇. alloc0 ! $ params1 ! $
+        pass1 ! (init ! 12 refl (tt, tt)) $ pass1 ! (init ! 10 refl (tt, (tt, (record { fits = r₁ }, tt)))) $
+        pass1 ! (init ! 8 refl (tt, (tt, (record { fits = r₂ }, tt)))) $ pass1 ! (init ! 6 refl (tt, (tt, (record { fits = r₃ }, tt)))) $
+        pass1 ! (init ! 4 refl (tt, record { fits = r₄ })) $ pass0 ! $
+        -- obs, the borrow, its token, _1, _7
+        move ! (16 ∷ 17 ∷ 18 ∷ 12 ∷ 0 ∷ []) $ copied-out ! h refl refl (λ is.
         -- the other tokens, the copy's, all else passed
-        owned ! T.the-row (Is T.the-row) ((LL.makes T.the-type T′.the-plain) 𝓤 H A) h _ is $ move ! (20 ∷ 0 ∷ 19 ∷ []) $
+        owned ! T.the-row (Is T.the-row) ((LL.makes T.the-type T′.the-plain) 𝓤 H A) h _ is $ move ! (22 ∷ 0 ∷ 21 ∷ []) $
         use3 W (raw (Callee 𝓤 H A at-mem run .pre (asked _))) (asks _) $
-        -- _6, _2, _3, _4
-        calls-at ! fm (Callee 𝓤 H A at-mem run) known (asked _) (arg ! 6 refl (arg ! 14 refl (arg ! 12 refl (arg ! 10 refl (no-more !)))))
-        (λ v.
+        -- _7, _2, _3, _4, _5
+        calls-at ! fm (Callee 𝓤 H A at-mem run) known (asked _)
+        (arg ! 6 refl (arg ! 16 refl (arg ! 14 refl (arg ! 12 refl (arg ! 10 refl (no-more !)))))) (λ v.
         use1 W (later (some (λ (r : Started). (toks ⊛ ‵ (R.the-row .own r (v ∷ []))) ⊛ raw (Ensured r)))) (id⊢ 𝓤 _) $ await ! tt $ pick !
         (λ r. split ! $
         move ! (1 ∷ []) $ use1 W
-        (some (λ (zs : Lasts). ‵ (lasts callee.ended (κ₁, (κ₂, tt)) (h, (x₁, (x₂, (x₃, tt)))) zs) ⊛ raw (fact 𝓤 (Does r)))) (id⊢ 𝓤 _) $
-        pick ! (λ zs.
+        (some (λ (zs : Lasts). ‵ (lasts callee.ended (κ₁, (κ₂, (κ₃, tt))) (h, (x₁, (x₂, (x₃, (x₄, tt))))) zs) ⊛ raw (fact 𝓤 (Does r))))
+        (id⊢ 𝓤 _) $ pick ! (λ zs.
         split ! $ move ! (1 ∷ []) $ heard ! (Does r) (λ e.
         move ! (1 ∷ []) $ split ! $ move ! (1 ∷ []) $ peeks ! R.the-row (Is R.the-row) (shows 𝓤 H A R.the-row) r (v ∷ []) (λ is′. drop ! $
-        -- the cell, the open borrow, obs, auth, _1, _5, _0
-        move ! (2 ∷ 3 ∷ 4 ∷ 5 ∷ 6 ∷ 9 ∷ 18 ∷ []) $ stored-back ! (r .bench) refl refl refl refl refl (gave r v is′) $
+        -- the cell, the open borrow, obs, auth, _1, _6, _0
+        move ! (2 ∷ 3 ∷ 4 ∷ 5 ∷ 6 ∷ 9 ∷ 20 ∷ []) $ stored-back ! (r .bench) refl refl refl refl refl (gave r v is′) $
         -- the locals, with what frees each
-        move ! (5 ∷ 18 ∷ 3 ∷ 17 ∷ 15 ∷ 16 ∷ 13 ∷ 14 ∷ 11 ∷ 12 ∷ 4 ∷ 10 ∷ 8 ∷ 9 ∷ []) $ freed ! $ freed ! $ freed ! $ freed ! $ freed ! $
-        freed ! $ freed ! $ free0 ! $
-        keep ! (0 ∷ 1 ∷ 2 ∷ 3 ∷ []) $ by ! (exits r e (LL.owed R.the-type R′.the-laws r _ is′ .0)))))))))))))))
+        move ! (5 ∷ 20 ∷ 3 ∷ 19 ∷ 17 ∷ 18 ∷ 15 ∷ 16 ∷ 13 ∷ 14 ∷ 11 ∷ 12 ∷ 4 ∷ 10 ∷ 8 ∷ 9 ∷ []) $ freed ! $ freed ! $ freed ! $ freed ! $
+        freed ! $ freed ! $ freed ! $ freed ! $ free0 ! $
+        keep ! (0 ∷ 1 ∷ 2 ∷ 3 ∷ []) $ by ! (exits r e (LL.owed R.the-type R′.the-laws r _ is′ .0))))))))))))))))
 
 module _ {M : Type 1} (𝓤 : URA M) (H : Heap 𝓤) (A : Atoms 𝓤) (W : Given 𝓤 H A) (at-mem : Memory → SProp 𝓤) (run : Routine → Fun 𝓤) where
   walks : (C : Calls 𝓤 H) (Λ : Loops 𝓤 H) → FmC 𝓤 H (W .laws) C → Triple 𝓤 (C #callee) (Callee 𝓤 H A at-mem run)
       → Walks 𝓤 H A here.ended stayed (WpFn 𝓤 H C Λ code.function) (here.clauses 𝓤 H A at-mem run)
   walks C Λ fm known =
       walked 𝓤 H A here.ended stayed (here.clauses 𝓤 H A at-mem run) (WpFn 𝓤 H C Λ code.function)
-      (λ κs. (ptr-vals, (slice-vals, (slice-vals, (uint-vals w32, tt)))))
+      (λ κs. (ptr-vals, (slice-vals, (slice-vals, (slice-vals, (uint-vals w32, tt))))))
       (λ κs. (
         mut-tells (named 0) (κs .0) (T.the-row),
-        (shr-slice-tells (named 1) (κs .1 .0) u64, (shr-slice-tells (named 2) (κs .1 .1 .0) u16, (uint-tells w32, tt))),
+        (
+          shr-slice-tells (named 1) (κs .1 .0) u64,
+          (shr-slice-tells (named 2) (κs .1 .1 .0) u16, (shr-slice-tells (named 3) (κs .1 .1 .1 .0) u32, (uint-tells w32, tt))),
+        ),
       ))
       (λ κs qs bounds a g are. via 𝓤 _ (fst∗ 𝓤 _ (emp 𝓤))
-      (walk 𝓤 H A W at-mem run (κs .0) (κs .1 .0) (κs .1 .1 .0) (qs .0) (qs .1 .0) (qs .1 .1 .0) (a .0 .ptr .0)
-      (a .0 .ptr .1) (a .0 .name) (a .0 .now) (a .1 .0) (a .1 .1 .0) (a .1 .1 .1 .0) C Λ fm known (are .1 .0 .0 .1 .0)
-      (are .1 .1 .0 .0 .1 .0)
-      (are .1 .1 .1 .0 .1)))
+      (walk 𝓤 H A W at-mem run (κs .0) (κs .1 .0) (κs .1 .1 .0) (κs .1 .1 .1 .0) (qs .0) (qs .1 .0) (qs .1 .1 .0)
+      (qs .1 .1 .1 .0) (a .0 .ptr .0) (a .0 .ptr .1) (a .0 .name) (a .0 .now) (a .1 .0) (a .1 .1 .0) (a .1 .1 .1 .0) (a .1 .1 .1 .1 .0)
+      C Λ fm known (are .1 .0 .0 .1 .0) (are .1 .1 .0 .0 .1 .0) (are .1 .1 .1 .0 .0 .1 .0) (are .1 .1 .1 .1 .0 .1)))
 
-  goes : AllGo 𝓤 H A W 3 (here.signature .params) (here.ended .kept) stayed
+  goes : AllGo 𝓤 H A W 4 (here.signature .params) (here.ended .kept) stayed
   goes = (
-    goes-ref 𝓤 H A W 3 0 tt (plain (λ _. T.the-row)),
+    goes-ref 𝓤 H A W 4 0 tt (plain (λ _. T.the-row)),
     (
-      goes-dropped 𝓤 H A W 3 (shrSliceOf (1 ∷ []) tt (plain (λ _. u64))) yes (λ κs x f. refl),
+      goes-dropped 𝓤 H A W 4 (shrSliceOf (1 ∷ []) tt (plain (λ _. u64))) yes (λ κs x f. refl),
       (
-        goes-dropped 𝓤 H A W 3 (shrSliceOf (2 ∷ []) tt (plain (λ _. u16))) yes (λ κs x f. refl),
-        (goes-dropped 𝓤 H A W 3 (plain (λ _. u32)) yes (λ κs x f. refl), tt),
+        goes-dropped 𝓤 H A W 4 (shrSliceOf (2 ∷ []) tt (plain (λ _. u16))) yes (λ κs x f. refl),
+        (
+          goes-dropped 𝓤 H A W 4 (shrSliceOf (3 ∷ []) tt (plain (λ _. u32))) yes (λ κs x f. refl),
+          (goes-dropped 𝓤 H A W 4 (plain (λ _. u32)) yes (λ κs x f. refl), tt),
+        ),
       ),
     ),
   )

@@ -36,6 +36,9 @@ slice-aggregate-is-shut c = search needs
 slice-aggregate-is-shut-2 : tie.Need-slice-aggregate-is-shut-2
 slice-aggregate-is-shut-2 c = search needs
 
+slice-aggregate-is-shut-3 : tie.Need-slice-aggregate-is-shut-3
+slice-aggregate-is-shut-3 c = search needs
+
 is-shut-requires : tie.Need-is-shut-requires
 is-shut-requires c κs = search shaped
 
@@ -54,6 +57,9 @@ slice-aggregate-opened c = search needs
 slice-aggregate-opened-2 : tie.Need-slice-aggregate-opened-2
 slice-aggregate-opened-2 c = search needs
 
+slice-aggregate-opened-3 : tie.Need-slice-aggregate-opened-3
+slice-aggregate-opened-3 c = search needs
+
 opened-requires : tie.Need-opened-requires
 opened-requires c κs = search shaped
 
@@ -69,25 +75,35 @@ slice-aggregate-run-events c = search needs
 slice-aggregate-run-events-2 : tie.Need-slice-aggregate-run-events-2
 slice-aggregate-run-events-2 c = search needs
 
+slice-aggregate-run-events-3 : tie.Need-slice-aggregate-run-events-3
+slice-aggregate-run-events-3 c = search needs
+
 run-events-requires : tie.Need-run-events-requires
-run-events-requires c κs = (
-  (search shaped, search needs),
-  room-first _ _ (c .before .before .before .before .before .before .put-first-line .ensures .1) (omega arith),
-)
+run-events-requires c κs =
+    let first = c .before .before .before .before .before .before .before in
+    let tested = first .before .before .before .before .before .before in (
+      (
+        shaped _ _ (tested .before .before .before .before .before .before .is-misshapen .ensures) (tested .before .before .before
+            .before .before .if2 .left),
+        search needs,
+      ),
+      room-first _ _ (first .put-first-line .ensures .1) (omega arith),
+    )
 
 same-length-3 : tie.Need-same-length-3
 same-length-3 c = search needs
 
 returns-4 : tie.Need-returns-4
 returns-4 c =
-    let ran = c .before .before .before .before in
-    let first = ran .before .before .before .before .before .before .before in
-    let tested = first .before .before .before .before .before in
-    text-whole _ _ (tested .before .before .before .before .before .before .if1 .left) _
-    (tested .before .before .before .before .before .is-misshapen .ensures) _ _ (tested .before .before .before .before .if2 .left) _
+    let ran = c .before .before .before .before .before in
+    let first = ran .before .before .before .before .before .before .before .before in
+    let tested = first .before .before .before .before .before .before in
+    text-whole _ _ (tested .before .before .before .before .before .before .before .if1 .left) _
+    (tested .before .before .before .before .before .before .is-misshapen .ensures) _ _ (tested .before .before .before .before
+    .before .if2 .left) _
     (tested .before .is-shut .ensures) (tested .if3 .left)
     _ (first .before .before .opened .ensures) _ _ (first .put-first-line .ensures .0) _
-    (ran .before .before .before .before .events-of .ensures .0) _ _ _ (ran .run-events .ensures)
+    (ran .before .before .before .before .before .events-of .ensures .0) _ (ran .run-events .ensures)
 
 pub roll-text-spec : {M : Type 1} → statement M
 roll-text-spec =
@@ -100,17 +116,20 @@ roll-text-spec =
     returns-2
     slice-aggregate-is-shut
     slice-aggregate-is-shut-2
+    slice-aggregate-is-shut-3
     is-shut-requires
     put-no-roll-requires-2
     same-length-2
     returns-3
     slice-aggregate-opened
     slice-aggregate-opened-2
+    slice-aggregate-opened-3
     opened-requires
     put-first-line-requires
     events-of-requires
     slice-aggregate-run-events
     slice-aggregate-run-events-2
+    slice-aggregate-run-events-3
     run-events-requires
     same-length-3
     returns-4)

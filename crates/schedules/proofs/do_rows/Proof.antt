@@ -6,16 +6,19 @@ use Rattle.schedules.proofs.do_rows.Statement.{statement}
 use Rattle.schedules.proofs.do_rows.Tie as tie
 
 abbrev Inv-loop : tie.InvT-loop
-Inv-loop script names₀ counts₀ bench₀ at₀ names counts bench at = Unit {0}
+Inv-loop script names₀ counts₀ totals₀ bench₀ at₀ names counts totals bench at = Unit {0}
 
 abbrev μ-loop : tie.MeasureT-loop
-μ-loop script names₀ counts₀ bench₀ at₀ names counts bench at = length script - at
+μ-loop script names₀ counts₀ totals₀ bench₀ at₀ names counts totals bench at = length script - at
 
 slice-aggregate-open : tie.Need-slice-aggregate-open Inv-loop μ-loop
 slice-aggregate-open c = search needs
 
 slice-aggregate-open-2 : tie.Need-slice-aggregate-open-2 Inv-loop μ-loop
 slice-aggregate-open-2 c = search needs
+
+slice-aggregate-open-3 : tie.Need-slice-aggregate-open-3 Inv-loop μ-loop
+slice-aggregate-open-3 c = search needs
 
 open-requires : tie.Need-open-requires Inv-loop μ-loop
 open-requires c κs = search needs
@@ -46,6 +49,7 @@ do-rows-spec =
     μ-loop
     slice-aggregate-open
     slice-aggregate-open-2
+    slice-aggregate-open-3
     open-requires
     loop-holds
     take-turn-requires

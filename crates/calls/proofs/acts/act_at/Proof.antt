@@ -1,4 +1,4 @@
-use Rattle.calls.proofs.ActCases.{asks-decidable, asks-tested, decided, proposed, snapped-two, voted}
+use Rattle.calls.proofs.ActCases.{asks-tested, asks-deciding, proposed, voted, decided, snapped-two}
 use borrow.Author.Needs.{needs}
 use Rattle.calls.proofs.acts.act_at.Statement.{statement}
 use Rattle.calls.proofs.acts.act_at.Tie as tie
@@ -44,7 +44,7 @@ returns-2 : tie.Need-returns-2
 returns-2 c = search voted
 
 decide-requires : tie.Need-decide-requires
-decide-requires c κs = search asks-decidable
+decide-requires c κs = search asks-deciding
 
 snap-view-requires : tie.Need-snap-view-requires
 snap-view-requires c κs = search needs
@@ -55,13 +55,16 @@ same-length-7 c = search needs
 same-length-8 : tie.Need-same-length-8
 same-length-8 c = search needs
 
+same-length-9 : tie.Need-same-length-9
+same-length-9 c = search needs
+
 returns-3 : tie.Need-returns-3
 returns-3 c =
-    let decision = c .before .before .before .before .before .before .before in
-    let start = decision .before .before .before .before .before .before .before .before .before .before .before .before in
-    decided (start .args .h) _ _ _ _ _ _ _ _ _ _
-    (decision .before .before .before .before .before .before .before .before .beat-of .ensures) _ _ _ _ _ _
-    (decision .before .before .before .before .before .if3 .taken) (decision .decide .ensures) (c .snap-view .ensures)
+    let decision = c .before .before .before .before .before .before .before .before .before in
+    let start = decision .before .before .before .before .before .before .before .before .before .before .before .before .before .before in
+    decided (start .args .h) _ _ _ _ _ _ _ _ _ _ _
+    (decision .before .before .before .before .before .before .before .before .before .beat-of .ensures) _ _ _ _ _ _ _
+    (decision .before .before .before .before .before .before .if3 .taken) (decision .decide .ensures) (c .snap-view .ensures)
 
 snap-view-requires-2 : tie.Need-snap-view-requires-2
 snap-view-requires-2 c κs = search needs
@@ -88,6 +91,7 @@ act-at-spec =
     snap-view-requires
     same-length-7
     same-length-8
+    same-length-9
     returns-3
     snap-view-requires-2
     returns-4)

@@ -19,9 +19,12 @@ same-length c = search needs
 same-length-2 : tie.Need-same-length-2
 same-length-2 c = search needs
 
+same-length-3 : tie.Need-same-length-3
+same-length-3 c = search needs
+
 returns : tie.Need-returns
 returns c = search acted-gives
 
 pub act-event-spec : {M : Type 1} → statement M
 act-event-spec =
-    tie.close (tie.spec offer-in-requires act-requires same-length same-length-2 returns)
+    tie.close (tie.spec offer-in-requires act-requires same-length same-length-2 same-length-3 returns)

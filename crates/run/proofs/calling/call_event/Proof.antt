@@ -31,6 +31,9 @@ same-length c = search needs
 same-length-2 : tie.Need-same-length-2
 same-length-2 c = search needs
 
+same-length-3 : tie.Need-same-length-3
+same-length-3 c = search needs
+
 returns : tie.Need-returns
 returns c = search begin-gives
 
@@ -52,11 +55,14 @@ part-receive-end c = search needs
 receive-requires : tie.Need-receive-requires
 receive-requires c κs = search needs
 
-same-length-3 : tie.Need-same-length-3
-same-length-3 c = search needs
-
 same-length-4 : tie.Need-same-length-4
 same-length-4 c = search needs
+
+same-length-5 : tie.Need-same-length-5
+same-length-5 c = search needs
+
+same-length-6 : tie.Need-same-length-6
+same-length-6 c = search needs
 
 returns-2 : tie.Need-returns-2
 returns-2 c = search receive-gives
@@ -64,11 +70,14 @@ returns-2 c = search receive-gives
 act-event-requires : tie.Need-act-event-requires
 act-event-requires c κs = search needs
 
-same-length-5 : tie.Need-same-length-5
-same-length-5 c = search needs
+same-length-7 : tie.Need-same-length-7
+same-length-7 c = search needs
 
-same-length-6 : tie.Need-same-length-6
-same-length-6 c = search needs
+same-length-8 : tie.Need-same-length-8
+same-length-8 c = search needs
+
+same-length-9 : tie.Need-same-length-9
+same-length-9 c = search needs
 
 returns-3 : tie.Need-returns-3
 returns-3 c = search act-gives
@@ -84,6 +93,7 @@ call-event-spec =
     begin-requires
     same-length
     same-length-2
+    same-length-3
     returns
     length-at-requires
     add-end
@@ -91,10 +101,12 @@ call-event-spec =
     part-receive-start
     part-receive-end
     receive-requires
-    same-length-3
     same-length-4
-    returns-2
-    act-event-requires
     same-length-5
     same-length-6
+    returns-2
+    act-event-requires
+    same-length-7
+    same-length-8
+    same-length-9
     returns-3)
