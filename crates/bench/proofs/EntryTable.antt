@@ -1,5 +1,6 @@
 -- Entries looked up by their numbers, on both sides of each block's edge; and 9 by the totals, on both sides of the decided length: two
--- tables, computed. Assumes nothing.
+-- tables, computed of a log by the definitions that both descriptions of a bench use. Order has rows of the same on a record. Assumes
+-- nothing.
 use Prim.Native.Nat.{ℕ}
 use mathlib.Core.Bool.{Bool, true, false}
 use mathlib.Core.List.{List, [], _∷_, map}
@@ -7,30 +8,17 @@ use mathlib.Core.Path.{_≡_, refl}
 use lib.ListN.{length, replicate, set}
 use Rattle.message.specs.Limits.{mostBlocks}
 use Rattle.message.specs.Causes.{firstFailure, judgedBy}
-use Rattle.message.specs.Numbers.{part, put}
-use Rattle.message.specs.Logs.{inStep, countsOf}
-use Rattle.message.specs.Store.{logAt}
-use Rattle.agreement.specs.Sets.{weigh, member}
-use Rattle.bench.specs.Layout.{decidedPlace, leastLent}
-use Rattle.bench.specs.Totals.{totalsFrom, unlike, sumOf, blockHolding, insideBlock}
-use Rattle.bench.specs.Calls.{Reply, refused, found, State}
-use Rattle.bench.specs.Record.{anyPlace, beyondAgreement, beyondProposals, beyond}
-use Rattle.bench.specs.ByRecord.{wrongTotals, findOf}
-use Rattle.bench.proofs.LimitTable.{plain}
+use Rattle.message.specs.Numbers.{put}
+use Rattle.message.specs.Logs.{Log, inStep, countsOf}
+use Rattle.bench.specs.Totals.{totalsFrom, totalsOf, unlike, sumOf, blockHolding, insideBlock}
+use Rattle.bench.specs.Calls.{Reply, refused, found, foundIn}
+use Rattle.bench.specs.Causes.{findCauses}
 
--- a bench whose decided blocks have these counts, on these totals
-abbrev holding : List ℕ → List ℕ → State
-holding counts totals = record {
-  bench = plain 5 4 0 (length counts);
-  lent =
-      record {
-        names = replicate leastLent 1;
-        counts = put (replicate leastLent 1) decidedPlace counts;
-        totals = totals;
-      };
-}
+-- a log of blocks with these counts
+abbrev holding : List ℕ → Log
+holding counts = inStep (replicate (length counts) 1) counts
 
--- the totals of these counts, and 7 at each place past them
+-- its totals, and 7 at each place past them
 abbrev right : List ℕ → List ℕ
 right counts = put (replicate mostBlocks 7) 0 (totalsFrom 0 counts)
 
@@ -83,11 +71,12 @@ rows =
     ∷ row full 4194240 (refused 23)
     ∷ []
 
-pub rows-hold : map (λ (r : Row). findOf (holding (r .counts) (right (r .counts))) (r .entry) .answer .reply) rows
-    ≡ map (λ (r : Row). r .reply) rows
-unfolding
-    findOf judgedBy firstFailure beyond beyondAgreement beyondProposals anyPlace weigh member unlike totalsFrom sumOf blockHolding
-    insideBlock logAt part put inStep countsOf
+-- what Find answers where the record is served
+abbrev answered : Row → Reply
+answered r = judgedBy (findCauses (holding (r .counts)) (r .entry)) refused (foundIn (holding (r .counts)) (r .entry))
+
+pub rows-hold : map answered rows ≡ map (λ (r : Row). r .reply) rows
+unfolding judgedBy firstFailure sumOf blockHolding insideBlock inStep countsOf
 rows-hold = refl
 
 -- ---- 9 by the totals
@@ -119,6 +108,6 @@ lists =
     ∷ listed (3 ∷ []) (3 ∷ replicate 99 7) false
     ∷ []
 
-pub lists-hold : map (λ (r : Listed). wrongTotals (holding (r .counts) (r .totals))) lists ≡ map (λ (r : Listed). r .wrong) lists
-unfolding unlike totalsFrom logAt part put inStep countsOf
+pub lists-hold : map (λ (r : Listed). unlike (totalsOf (holding (r .counts))) (r .totals)) lists ≡ map (λ (r : Listed). r .wrong) lists
+unfolding unlike totalsFrom put inStep countsOf
 lists-hold = refl
