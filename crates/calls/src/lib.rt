@@ -1,7 +1,6 @@
 // The calls of a bench, on its record by value and three lent lists: the names and the counts of blocks, and the running totals of the
-// decided log's counts. What each gives is defined in
-// crate bench (specs/ByRecord.antt), for every record, list, message and buffer; a refused call changes nothing. A record is taken
-// into its parts, and put together once.
+// decided log's counts. What each gives is defined in crate bench (specs/ByRecord.antt), for every record, list, message and buffer; a
+// refused call changes nothing. A record is taken into its parts, and put together once.
 mod acts;
 mod beginning;
 mod calendar;
