@@ -4,7 +4,7 @@ use model::history::entries::{entries_in, totals};
 use model::history::message::Block;
 use model::history::roll::{read_roll, text, Roll};
 use model::record::roll::roll_text;
-use model::record::{self, LEAST_LENT, LEAST_TOTALS, MOST_BYTES};
+use model::record::{self, Desk};
 use model::rolls::entries::edges;
 use model::rolls::Generator;
 
@@ -14,53 +14,18 @@ const SEEDS: u64 = 800;
 /// What the lent list of totals holds before anything is written: whatever stood there.
 const FREE: u32 = 0x5A5A_5A5A;
 
-/// A record with its lent lists.
-struct Desk {
-    bench: record::Bench,
-    names: Vec<u64>,
-    counts: Vec<u16>,
-    totals: Vec<u32>,
-    out: Vec<u8>,
-}
-
-impl Desk {
-    fn open(n: u8, own: u8) -> Desk {
-        let (names, counts, totals) = (vec![0; LEAST_LENT], vec![0; LEAST_LENT], vec![FREE; LEAST_TOTALS]);
-        let bench = record::Bench::open(n, own, &names, &counts, &totals).expect("numbers in range");
-        Desk {
-            bench,
-            names,
-            counts,
-            totals,
-            out: vec![0; MOST_BYTES],
+/// Makes a call; its refusal, if it is refused.
+fn refusal_of(desk: &mut Desk, call: &Call) -> Option<u8> {
+    match call {
+        Call::Begin(beat) => desk.begin(*beat).err(),
+        Call::Receive(bytes) => desk.receive(bytes).err(),
+        Call::Act { block, priority } => {
+            let offered = record::Block {
+                name: block.name,
+                count: block.count,
+            };
+            desk.act(offered, *priority).err()
         }
-    }
-
-    /// Makes a call; its refusal, if it is refused.
-    fn call(&mut self, call: &Call) -> Option<u8> {
-        let Desk {
-            bench,
-            names,
-            counts,
-            totals,
-            out,
-        } = self;
-        match call {
-            Call::Begin(beat) => bench.begin(names, counts, totals, *beat).err(),
-            Call::Receive(bytes) => bench.receive(names, counts, totals, bytes).err(),
-            Call::Act { block, priority } => {
-                let offered = record::Block {
-                    name: block.name,
-                    count: block.count,
-                };
-                bench.act(names, counts, totals, out, offered, *priority).err()
-            }
-        }
-    }
-
-    fn find(&self, entry: u32) -> Result<(u8, u16), u8> {
-        let found = self.bench.find(&self.names, &self.counts, &self.totals, entry);
-        found.map(|found| (found.block, found.inside))
     }
 }
 
@@ -78,7 +43,7 @@ struct Met {
 impl Met {
     /// Makes every call of a roll on both, and looks entries up on both after each.
     fn follow(&mut self, roll: &Roll) {
-        let mut desk = Desk::open(roll.n, roll.own);
+        let mut desk = Desk::open(roll.n, roll.own, FREE).expect("numbers in range");
         let mut bench = Bench::open(roll.n, roll.own).expect("numbers in range");
         self.look_up(&desk, &bench, &edges(&[]));
         for call in &roll.calls {
@@ -89,7 +54,7 @@ impl Met {
             } else {
                 None
             };
-            assert_eq!(desk.call(call), refusal);
+            assert_eq!(refusal_of(&mut desk, call), refusal);
             let (log, parted) = bench.standing();
             assert_eq!(desk.totals[..log.len()], totals(log));
             assert_eq!(

@@ -1,51 +1,27 @@
 //! A roll as a bench lives it: four benches in step, messages of a beat handed over in the next one, a LOG passed on once more.
 use super::events::Events;
 use super::Case;
-use crate::record::{Bench, Block, Made, LEAST_LENT, LEAST_TOTALS, MOST_BYTES};
+use crate::record::{Block, Desk, Made};
 
 const N: u8 = 4;
 
 /// A bench at work beside the one whose roll is kept.
-struct Desk {
-    bench: Bench,
-    names: Vec<u64>,
-    counts: Vec<u16>,
-    totals: Vec<u32>,
-    out: Vec<u8>,
-}
-
 impl Desk {
-    fn open(own: u8) -> Desk {
-        let (names, counts, totals) = (vec![0; LEAST_LENT], vec![0; LEAST_LENT], vec![0; LEAST_TOTALS]);
-        let bench = Bench::open(N, own, &names, &counts, &totals).expect("number and lists are in range");
-        Desk {
-            bench,
-            names,
-            counts,
-            totals,
-            out: vec![0; MOST_BYTES],
-        }
-    }
-
     /// Begins the beat, takes what comes and acts; the message made.
     fn live(&mut self, beat: u32, inbox: &[Vec<u8>], offered: Block, priority: u64) -> Option<Vec<u8>> {
-        let Desk {
-            bench,
-            names,
-            counts,
-            totals,
-            out,
-        } = self;
-        bench.begin(names, counts, totals, beat).expect("beats rise");
+        self.begin(beat).expect("beats rise");
         for message in inbox {
-            bench.receive(names, counts, totals, message).expect("views are open");
+            self.receive(message).expect("views are open");
         }
-        let made = bench.act(names, counts, totals, out, offered, priority);
-        match made.expect("a gathering is under way") {
+        match self.act(offered, priority).expect("a gathering is under way") {
             Made::Nothing => None,
-            Made::Log(blocks) | Made::Proposal(blocks) => Some(out[..16 + 10 * blocks as usize].to_vec()),
+            Made::Log(blocks) | Made::Proposal(blocks) => Some(self.out[..16 + 10 * blocks as usize].to_vec()),
         }
     }
+}
+
+fn opened(own: u8) -> Desk {
+    Desk::open(N, own, 0).expect("number and lists are in range")
 }
 
 /// A block is offered in every eighth view only, so logs stay small over many views.
@@ -64,7 +40,7 @@ fn from_others(sent: &[Vec<u8>]) -> Vec<Vec<u8>> {
 /// Beats in step, each bench getting what the others sent in the beat before, and LOGs once more a beat later, passed on. The
 /// roll is bench 0's, up to 1,024 events.
 pub fn small_logs() -> Case {
-    let mut desks: Vec<Desk> = (0..N).map(Desk::open).collect();
+    let mut desks: Vec<Desk> = (0..N).map(opened).collect();
     let mut events = Events::new();
     let mut sent: Vec<Vec<u8>> = Vec::new();
     let mut passed_on: Vec<Vec<u8>> = Vec::new();

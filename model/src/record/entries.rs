@@ -2,38 +2,20 @@
 use super::lists::DECIDED_PLACE;
 use super::*;
 
-/// A bench of 4 in lists of its own.
-#[derive(Clone, PartialEq, Debug)]
-struct Desk {
-    bench: Bench,
-    names: Vec<u64>,
-    counts: Vec<u16>,
-    totals: Vec<u32>,
-    out: Vec<u8>,
-}
-
 const NONE: Block = Block { name: 0, count: 0 };
 
 /// What the list of totals holds where nothing was written.
 const FREE: u32 = 0xA5A5_A5A5;
 
 impl Desk {
-    fn open() -> Desk {
-        let (names, counts, totals) = (vec![0; LEAST_LENT], vec![0; LEAST_LENT], vec![FREE; LEAST_TOTALS]);
-        let bench = Bench::open(4, 1, &names, &counts, &totals).unwrap();
-        let out = vec![0; MOST_BYTES];
-        Desk {
-            bench,
-            names,
-            counts,
-            totals,
-            out,
-        }
+    /// Bench 1 of 4.
+    fn one() -> Desk {
+        Desk::open(4, 1, FREE).unwrap()
     }
 
     /// With a decided log of these counts and names that are all 5, and its totals.
     fn decided(counts: &[u16]) -> Desk {
-        let mut desk = Desk::open();
+        let mut desk = Desk::one();
         desk.bench.decided = counts.len() as u8;
         let mut total = 0;
         for (place, &count) in counts.iter().enumerate() {
@@ -45,39 +27,15 @@ impl Desk {
         desk
     }
 
-    fn begin(&mut self, beat: u32) -> Result<(), Refusal> {
-        self.bench.begin(&self.names, &self.counts, &self.totals, beat)
-    }
-
-    fn receive(&mut self, bytes: &[u8]) -> Result<Word, Refusal> {
-        self.bench.receive(&mut self.names, &mut self.counts, &self.totals, bytes)
-    }
-
-    fn act(&mut self) -> Result<Made, Refusal> {
-        let Desk {
-            bench,
-            names,
-            counts,
-            totals,
-            out,
-        } = self;
-        bench.act(names, counts, totals, out, NONE, 0)
-    }
-
-    fn find(&self, entry: u32) -> Result<(u8, u16), Refusal> {
-        let found = self.bench.find(&self.names, &self.counts, &self.totals, entry);
-        found.map(|found| (found.block, found.inside))
-    }
-
     /// Hears benches 0, 2 and 3 vote for these blocks in a view, two views after the last, and decides.
     fn decide(&mut self, view: u32, log: &[Block]) {
         self.begin(4 * view + 2).unwrap();
         for sender in [0, 2, 3] {
             assert_eq!(self.receive(&log_bytes(sender, view, log)), Ok(Word::First));
         }
-        self.act().unwrap();
+        self.act(NONE, 0).unwrap();
         self.begin(4 * view + 6).unwrap();
-        self.act().unwrap();
+        self.act(NONE, 0).unwrap();
     }
 }
 
@@ -94,13 +52,13 @@ fn wrong_totals_are_nine_after_eight_and_before_the_rest() {
             let before = desk.clone();
             assert_eq!(desk.begin(LAST_BEAT + 1), Err(9), "and not 10");
             assert_eq!(desk.receive(&[]), Err(9), "and not 22");
-            assert_eq!(desk.act(), Err(9), "and not 22");
+            assert_eq!(desk.act(NONE, 0), Err(9), "and not 22");
             desk.out.pop();
-            assert_eq!(desk.act(), Err(9), "and not 11");
+            assert_eq!(desk.act(NONE, 0), Err(9), "and not 11");
             assert_eq!(desk.find(u32::MAX), Err(9), "and not 23");
             desk.names.pop();
             assert_eq!(
-                (desk.begin(0), desk.receive(&[]), desk.act(), desk.find(0)),
+                (desk.begin(0), desk.receive(&[]), desk.act(NONE, 0), desk.find(0)),
                 (Err(8), Err(8), Err(8), Err(8))
             );
             assert_eq!(
@@ -118,13 +76,13 @@ fn what_stands_past_the_decided_length_is_free() {
         assert_eq!((desk.begin(0), desk.find(0).is_ok()), (Ok(()), blocks > 0));
         desk.totals.push(9);
         desk.counts[DECIDED_PLACE + blocks..].fill(7);
-        assert_eq!((desk.receive(&[]), desk.act()), (Err(1), Ok(Made::Nothing)));
+        assert_eq!((desk.receive(&[]), desk.act(NONE, 0)), (Err(1), Ok(Made::Nothing)));
     }
 }
 
 #[test]
 fn an_act_writes_totals_where_a_decision_extends_and_past_the_old_length_alone() {
-    let mut desk = Desk::open();
+    let mut desk = Desk::one();
     let totals = |desk: &Desk, written: &[u32]| {
         let (front, rest) = desk.totals.split_at(written.len());
         front == written && rest.iter().all(|&total| total == FREE)
@@ -181,6 +139,6 @@ fn an_entry_is_found_at_any_time_and_parted_too() {
     assert_eq!(desk.find(0), Ok((0, 0)), "no beat begun");
     desk.begin(3).unwrap();
     assert_eq!((desk.find(0), desk.find(1)), (Ok((0, 0)), Err(23)), "in a gathering");
-    assert_eq!(desk.act(), Ok(Made::Nothing));
+    assert_eq!(desk.act(NONE, 0), Ok(Made::Nothing));
     assert_eq!(desk.find(0), Ok((0, 0)));
 }

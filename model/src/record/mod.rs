@@ -4,6 +4,7 @@
 mod acts;
 mod agreement;
 mod bench;
+mod desk;
 mod grading;
 mod lists;
 mod message;
@@ -18,6 +19,7 @@ mod entries;
 mod schedules;
 
 pub use bench::Bench;
+pub use desk::Desk;
 pub use lists::{Block, LEAST_LENT};
 pub use message::{log_bytes, proposal_bytes, MOST_BYTES};
 pub use roll::write_roll_text;
