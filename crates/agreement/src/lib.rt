@@ -1,6 +1,8 @@
 // One agreement: who voted for which log, who is an equivocator, the two snapshots, and the longest log with a grade; and the
 // proposals of a view. Logs stand in the two lent lists, from a place `base` on, 64 places for each sender. Numbers go by value,
 // and arrays are lent.
+#![tactic(auto)]
+
 pub mod filing;
 pub mod grading;
 pub mod proposing;

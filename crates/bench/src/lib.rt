@@ -1,5 +1,7 @@
 // One bench: its record, its layout, and the answers of its calls. What the calls are to give is in specs/, what is proved of that in
 // proofs/; the code is crate calls.
+#![tactic(auto)]
+
 use agreement::{Grade, Marks, SPAN, Shown};
 use message::{BLOCK_WIDTH, HEAD_LENGTH, LAST_VIEW, MOST_BLOCKS};
 

@@ -1,6 +1,8 @@
 // The calls of a bench, on its record by value and three lent lists: the names and the counts of blocks, and the running totals of the
 // decided log's counts. What each gives is defined in crate bench (specs/ByRecord.antt), for every record, list, message and buffer; a
 // refused call changes nothing. A record is taken into its parts, and put together once.
+#![tactic(auto)]
+
 mod acts;
 mod beginning;
 mod calendar;

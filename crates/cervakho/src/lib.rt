@@ -1,6 +1,8 @@
 // The static library: the four functions of a roll that C or Rust may call, each the function of the crate run with its contract.
 // Nothing tests what C hands over, so at each signature stands what C must keep to: a pointer is valid for as many elements as the
 // length behind it says, and aligned for them; and no two of the buffers overlap. Where they do, a function may write outside them.
+#![tactic(auto)]
+
 ghost use Rattle.bench.specs.Answers.{lent_as};
 ghost use Rattle.run.specs.RollText.{WritesText, fresh_totals};
 ghost use Rattle.run.specs.Held.{held_at};

@@ -1,6 +1,8 @@
 // The calendar of a view and of two overlapping agreements, as a chart that the engine itself fills in: for every beat a bench is
 // opened and asked. No beat of the calendar is written down; a column is only counted from the first beat of view v, 4v. The file
 // stdin has the layout: each line up to its bar, and behind the bar what to ask.
+#![tactic(auto)]
+
 mod answers;
 mod asking;
 mod beats;

@@ -1,6 +1,8 @@
 // Begin, Receive and Act on a record that is lent and found moved on: each takes the record out, makes the call by value and stores
 // the record that it gave. So each is that call, and promises what it does, with the record behind the reference in place of the
 // one taken and the one given back. A refusal stores the record as it was. The look-up leaves the record alone and has no such form.
+#![tactic(auto)]
+
 ghost use Rattle.bench.specs.Record.{bench_of};
 ghost use Rattle.bench.specs.ByRecord.{begin_of, receive_of, act_of};
 ghost use Rattle.bench.specs.Answers.{state_of, BeginGives, ReceiveGives, ActGives};

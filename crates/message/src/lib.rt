@@ -1,5 +1,7 @@
 // Messages and logs: the lowest layer. A message is read from bytes, written into the outgoing buffer, and its log filed in
 // the two lent lists (block names and entry counts), where logs are compared and copied.
+#![tactic(auto)]
+
 pub mod number;
 pub mod reader;
 pub mod store;

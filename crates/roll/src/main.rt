@@ -1,5 +1,6 @@
 // Prints the text of a roll read from standard input. What the text is, and that it fits, is the library's promise; here bytes are
 // only read and written.
+#![tactic(auto)]
 
 fn print_text(roll: &[u8], text: &mut [u8]) {
     let end = run::roll_text(roll, text);

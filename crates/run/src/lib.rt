@@ -2,6 +2,8 @@
 // and for a tool that shows schedules roll_page, what the bench holds after some of the calls (specs/Page.antt), roll_made, the
 // message that an act made (specs/MadeBytes.antt), and roll_entry, where an entry stands after some of the calls
 // (specs/EntryBytes.antt). The crate cervakho exports them.
+#![tactic(auto)]
+
 mod calling;
 mod entry;
 mod events;

@@ -1,6 +1,8 @@
 // Document 01's schedules without a star through the compiled calls, a line for each, and a few more of their kind: what each call
 // was handed, and what came back. An act's answer is what was made, its blocks, and the decided blocks, with the mark; a look-up's is
 // the block's place, and the place inside it. The rows are read from standard input, without the answers.
+#![tactic(auto)]
+
 mod form;
 mod gathering;
 mod print;

@@ -1,6 +1,8 @@
 // The scripts of the test programs: a program reads its rows from standard input, writes them out again and does what they say.
 // A row is a line of clauses, each ended by a semicolon or by the end of the line. Of a clause with a bar in it what stands before
 // the bar is written, and what stands behind it is read. A line that starts with # is a comment.
+#![tactic(auto)]
+
 ghost use Rattle.std.specs.Prelude.{◌≤◌, ◌-◌, length, ◌≡◌};
 
 use libc::STDOUT_FILENO;

@@ -1,5 +1,7 @@
 // The table of schedules (agreement, proofs/Starred.antt) through the compiled code: the rows are read from standard input, in the
 // table's order, and each is written with what is found.
+#![tactic(auto)]
+
 mod log;
 mod row;
 

@@ -1,5 +1,7 @@
 // Messages and logs through the compiled code, a line for each vector: what is proved of the source is seen here of a program.
 // The vectors stand in the file stdin, each with the call to make behind a bar.
+#![tactic(auto)]
+
 mod print;
 mod step;
 
