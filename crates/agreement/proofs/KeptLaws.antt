@@ -69,15 +69,15 @@ module _ (g : Agreement) (names counts : List ℕ) (base : ℕ) (s : List ℕ) (
       → (is_equivocator g i ≡ false → is_voter g i ≡ false → A) → A
   cases3 A = cases A (is_equivocator g i) (is_voter g i) (same_log (log_in s) (filed_log names counts base g.lengths i))
 
-  no : unfit names counts base s i ≡ false
-  no = fit_not_unfit names counts base s i f
+  fits : unfit names counts base s i ≡ false
+  fits = fit_not_unfit names counts base s i f
 
   -- the answer is the rule's
   pub file_word : (file_of g names counts base s i).word ≡ word_on same_log (kept_log names counts base g i) (log_in s)
   unfolding file_of word_on kept_log
   file_word =
       cases3 ((file_of g names counts base s i).word ≡ word_on same_log (kept_log names counts base g i) (log_in s))
-      (λ q. rw (no, q) refl) (λ q v e. rw (no, q, v, e) refl) (λ q v e. rw (no, q, v, e) refl) (λ q v. rw (no, q, v) refl)
+      (λ q. rw (fits, q) refl) (λ q v e. rw (fits, q, v, e) refl) (λ q v e. rw (fits, q, v, e) refl) (λ q v. rw (fits, q, v) refl)
 
   -- what is kept of the sender is the rule's
   pub file_kept : Sized g
@@ -90,10 +90,10 @@ module _ (g : Agreement) (names counts : List ℕ) (base : ℕ) (s : List ℕ) (
       (kept_log (file_of g names counts base s i).names (file_of g names counts base s i).counts base
       (file_of g names counts base s i).agreement i
       ≡ keep same_log (kept_log names counts base g i) (log_in s))
-      (λ q. rw (no, q) (rw q refl))
-      (λ q v e. rw (no, q, v, e) (rw (q, v) refl))
-      (λ q v e. rw (no, q, v, e) (rw (adding_same g.marks.equivocators i) refl))
-      (λ q v. rw (no, q, v) (rw (
+      (λ q. rw (fits, q) (rw q refl))
+      (λ q v e. rw (fits, q, v, e) (rw (q, v) refl))
+      (λ q v e. rw (fits, q, v, e) (rw (adding_same g.marks.equivocators i) refl))
+      (λ q v. rw (fits, q, v) (rw (
         q,
         adding_same g.marks.voters i,
         get_or-set_same g.lengths i (count_in s) 0 (omega (arith, f.few, z.lengths)),
@@ -111,11 +111,11 @@ module _ (g : Agreement) (names counts : List ℕ) (base : ℕ) (s : List ℕ) (
       (kept_log (file_of g names counts base s i).names (file_of g names counts base s i).counts base
       (file_of g names counts base s i).agreement j
       ≡ kept_log names counts base g j)
-      (λ q. rw (no, q) refl)
-      (λ q v e. rw (no, q, v, e) refl)
-      (λ q v e. rw (no, q, v, e, adding_other g.marks.equivocators i j d, removing_other g.marks.voters i j d) refl)
+      (λ q. rw (fits, q) refl)
+      (λ q v e. rw (fits, q, v, e) refl)
+      (λ q v e. rw (fits, q, v, e, adding_other g.marks.equivocators i j d, removing_other g.marks.voters i j d) refl)
       (λ q v. rw (
-        no,
+        fits,
         q,
         v,
         adding_other g.marks.voters i j d,
@@ -163,7 +163,7 @@ module _ (names counts : List ℕ) (base : ℕ) (g : Agreement) (i : ℕ) where
       go false true = refl
       go false false = refl
 
-  -- in no record within its limits is a sender in both V and E
+  -- in fits record within its limits is a sender in both V and E
   module _ (apart : (is_voter g i && is_equivocator g i) ≡ false) where
     pub kept_voter : is_voter g i ≡ single_of (kept_log names counts base g i)
     unfolding kept_log

@@ -25,9 +25,17 @@ pub prefix_trans : {P Q R : Log} → Prefix P Q → Prefix Q R → Prefix P R
 prefix_trans empty k = empty
 prefix_trans (more h) (more k) = more (prefix_trans h k)
 
+prefix_antisym_by : {P Q R S : Log} → Prefix P Q → Prefix R S → Q ≡ R → S ≡ P → P ≡ Q
+prefix_antisym_by empty empty e f = sym e
+prefix_antisym_by empty (more k) e f = cc
+prefix_antisym_by (more h) empty e f = cc
+prefix_antisym_by (more {b = b} {P = P} {Q = Q} h) (more {P = R} {Q = S} k) e f =
+    let q : Q ≡ R = cc in
+    let p : S ≡ P = cc in
+    ap (λ l. b ∷ l) (prefix_antisym_by h k q p)
+
 pub prefix_antisym : {P Q : Log} → Prefix P Q → Prefix Q P → P ≡ Q
-prefix_antisym empty empty = refl
-prefix_antisym (more {b = b} h) (more k) = ap (λ l. b ∷ l) (prefix_antisym h k)
+prefix_antisym h k = prefix_antisym_by h k refl refl
 
 pub prefix_length : {P Q : Log} → Prefix P Q → length P ≤ length Q
 prefix_length empty = omega arith

@@ -2,7 +2,7 @@
 use Prim.Native.Nat.{ℕ, zero, suc, ◌+◌, ◌*◌, ◌/◌, ◌%◌, ◌^◌, ◌≤◌, ◌<◌}
 use native.Mathlib.Omega.{arith}
 use native.Mathlib.Nat.{pow-suc, mul-suc, mul-zero, div-lt_iff_lt-mul, zero-lt-suc}
-use mathlib.Core.Path.{◌≡◌, refl, sym, ap, ◌∙◌}
+use mathlib.Core.Path.{◌≡◌, refl, sym, ap, subst, ◌∙◌}
 use mathlib.Core.Bool.{Bool, true, false}
 use mathlib.Core.List.{List, [], ◌∷◌, ◌++◌, append_assoc}
 use borrow.Author.Tests.{le-leb, leb-true}
@@ -99,7 +99,9 @@ numbers_bytes w (x ∷ xs) r h =
     ∙ numbers_drop w l w 0 (length xs)
     ∙ ap (λ (s : List ℕ). numbers_at w s 0 (length xs)) (drop_at (bytes_for w x) (bytes_for_each w xs ++ r) w (length_bytes w x))
     ∙ numbers_bytes w xs r (λ i. h (suc i)) in
-    rw (append_assoc (bytes_for w x) (bytes_for_each w xs) r) (λ i. n i ∷ t i)
+    let e : l ≡ (bytes_for w x ++ bytes_for_each w xs) ++ r = sym (append_assoc (bytes_for w x) (bytes_for_each w xs) r) in
+    let P : List ℕ → Type 0 = λ s. numbers_at w s 0 (length (x ∷ xs)) ≡ x ∷ xs in
+    subst P e (λ i. n i ∷ t i)
 
 -- the same at the place where they were written
 pub number_after : (w x : ℕ) (s r : List ℕ) (a : ℕ) → drop a s ≡ bytes_for w x ++ r → x < 256 ^ w → number_at w s a ≡ x
