@@ -165,8 +165,8 @@ module _ (S : Seat) (s : Core) (p : History) (t : Refines S s p) (busy : p.gathe
     where
       snap : (k : ℕ) → place_in beat ≡ k → {d : Option Log} {x : Core} → Settled S s p d x
           → Refines S (snapped (snapshot_taken (act_at k)) v x) (closed p made d)
-      snap zero e {d} w = settled_refines made d w (λ u l j. elim j [ one ↦ (λ z. omega arith) | two ↦ (λ z. omega arith) ])
-      snap (suc zero) e {d} w = settled_refines made d w (λ u l j. elim j [ one ↦ (λ z. omega arith) | two ↦ (λ z. omega arith) ])
+      snap zero e {d} w = settled_refines made d w (λ u l j. elim j as (λ (k : SnapshotNumber). beat ≡ snapshot_beat k u → ⊥) [ one ↦ (λ z. omega arith) | two ↦ (λ z. omega arith) ])
+      snap (suc zero) e {d} w = settled_refines made d w (λ u l j. elim j as (λ (k : SnapshotNumber). beat ≡ snapshot_beat k u → ⊥) [ one ↦ (λ z. omega arith) | two ↦ (λ z. omega arith) ])
       snap (suc (suc zero)) e {d} w = snapshot_refines made d one v w (omega arith)
       snap (suc (suc (suc k))) e {d} w = snapshot_refines made d two v w (omega arith)
 

@@ -11,14 +11,15 @@ use mathlib.Core.Path.{◌≡◌, sym, ap, subst, ◌∙◌}
 use Rattle.message.specs.Limits.{most_blocks}
 use Rattle.message.proofs.TestLaws.{either}
 use Rattle.agreement.specs.Limits.{most_senders, span}
-use Rattle.agreement.specs.Record.{empty_agreement, Agreement, SnapshotNumber, one, two}
+use Rattle.agreement.specs.Record.{empty_agreement, snapshot_at, Agreement, SnapshotNumber, one, two}
+use Rattle.agreement.specs.Kept.{snapshot_in}
 use Rattle.agreement.specs.Proposals.{empty_proposals, Proposals}
 use Rattle.agreement.specs.Heard.{heard_logs, heard_proposals}
 use Rattle.agreement.proofs.ElsewhereLaws.{Apart, Elsewhere, kept_elsewhere, proposal_kept_elsewhere}
 use Rattle.agreement.proofs.KeptOfLaws.{heard_no_view, proposals_no_view}
 use Rattle.bench.specs.Layout.{is_even, logs_place, proposals_place, decided_place}
 use Rattle.bench.specs.Calendar.{last_view, view_beat, input_beat, snapshot_beat, close_beat}
-use Rattle.bench.specs.History.{History, heard_at, snapshot_of}
+use Rattle.bench.specs.History.{History, heard_at, snapshot_of, snapshot_took}
 use Rattle.bench.specs.Record.{agreement_of, with_agreement, proposals_of, with_proposals, Bench}
 use Rattle.bench.proofs.Valid.{ValidAgreement, ValidProposals, Valid}
 use Rattle.agreement.proofs.EmptyLaws.{empty_kept, empty_proposal_kept}
@@ -87,7 +88,8 @@ module _ {next : ℕ} {p : History} (since : Since next p) (u : ℕ) where
       record {
         logs = λ i. empty_kept ns cs (logs_place u) u i
             ∙ sym (heard_no_view p.heard u i (λ m j e. let k = since.logs m j in omega arith));
-        snapshots = λ (k : SnapshotNumber). elim k [
+        snapshots = λ (k : SnapshotNumber). elim k as (λ (k : SnapshotNumber).
+            snapshot_in (snapshot_at k (empty_agreement u).marks) ≡ snapshot_took p k u) [
           | one ↦ none-at (snapshot_beat one u) (omega arith)
           | two ↦ none-at (snapshot_beat two u) (omega arith)
         ];

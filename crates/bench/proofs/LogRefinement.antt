@@ -17,7 +17,7 @@ use Rattle.agreement.specs.Limits.{span}
 use Rattle.agreement.specs.Filing.{Fit, Filing, file_of}
 use Rattle.agreement.specs.Kept.{word_on, keep, kept_log, snapshot_in, SameRest}
 use Rattle.agreement.specs.Heard.{heard_logs}
-use Rattle.agreement.specs.Record.{Agreement, SnapshotNumber, one, two}
+use Rattle.agreement.specs.Record.{Agreement, SnapshotNumber, snapshot_at, one, two}
 use Rattle.agreement.specs.Proposals.{Proposals}
 use Rattle.agreement.proofs.KeptLaws.{file_word, file_kept, file_apart, file_rest}
 use Rattle.agreement.proofs.ElsewhereLaws.{Elsewhere, file_elsewhere}
@@ -26,7 +26,7 @@ use Rattle.bench.specs.Terms.{Seat}
 use Rattle.bench.specs.Calls.{Core}
 use Rattle.bench.specs.Layout.{logs_place, decided_place}
 use Rattle.bench.specs.Calendar.{last_view, input_beat, close_beat}
-use Rattle.bench.specs.History.{History, file, word_for}
+use Rattle.bench.specs.History.{History, file, word_for, snapshot_took}
 use Rattle.bench.specs.Record.{agreement_of, proposals_of, with_agreement, Bench}
 use Rattle.bench.specs.ByRecord.{decided_log}
 use Rattle.bench.proofs.Valid.{ValidAgreement}
@@ -117,7 +117,8 @@ module _ (S : Seat) (s : Core) (p : History) (t : Refines S s p) (bytes : List �
           ∙ before.logs j
           ∙ sym (heard_other p.heard m m.view j (inr x))
     ];
-    snapshots = λ (k : SnapshotNumber). elim k [
+    snapshots = λ (k : SnapshotNumber). elim k as (λ (k : SnapshotNumber).
+        snapshot_in (snapshot_at k r.agreement.marks) ≡ snapshot_took q k m.view) [
       | one ↦ ap snapshot_in rest.one ∙ before.snapshots one
       | two ↦ ap snapshot_in rest.two ∙ before.snapshots two
     ];
