@@ -24,7 +24,7 @@ pub const SPAN: usize = MOST_SENDERS * MOST_BLOCKS;
 
 // A snapshot: who was in V when it was taken, and whether it was: zero no, any other yes.
 #[repr(C)]
-#[derive(Drop)]
+#[derive(Clone, Copy)]
 pub struct Snapshot {
     pub senders: u32,
     pub taken: u32,
@@ -33,7 +33,7 @@ pub struct Snapshot {
 // The agreement of a view, but for the blocks of each sender's log, which stand in an array beside it. A bench is a validator;
 // its number is its place in each array, and its digit in each set.
 #[repr(C)]
-#[derive(Drop)]
+#[derive(Clone, Copy)]
 pub struct Marks {
     pub view: u32,
     // V: the senders of one log
@@ -46,7 +46,7 @@ pub struct Marks {
 
 // The proposals of a view, but for the blocks and the priority of each sender's: who made one, and whose are set aside.
 #[repr(C)]
-#[derive(Drop)]
+#[derive(Clone, Copy)]
 pub struct Shown {
     pub view: u32,
     pub filed: u32,
@@ -54,7 +54,7 @@ pub struct Shown {
 }
 
 // The answer to a message filed.
-#[derive(Drop)]
+#[derive(Clone, Copy)]
 pub enum Answer {
     First,
     Second,
@@ -62,28 +62,28 @@ pub enum Answer {
 }
 
 // The answer to a LOG, and the marks afterwards.
-#[derive(Drop)]
+#[derive(Clone, Copy)]
 pub struct Filed {
     pub answer: Answer,
     pub marks: Marks,
 }
 
 // The answer to a PROPOSAL, and the marks afterwards.
-#[derive(Drop)]
+#[derive(Clone, Copy)]
 pub struct FiledProposal {
     pub answer: Answer,
     pub marks: Shown,
 }
 
 // A grade: the longest log that has it, by the sender at whose place it stands and its number of blocks; or nothing.
-#[derive(Drop)]
+#[derive(Clone, Copy)]
 pub enum Grade {
     Longest(u8, u8),
     Nothing,
 }
 
 // A vote: for the proposal of a sender, or for the lock.
-#[derive(Drop)]
+#[derive(Clone, Copy)]
 pub enum Choice {
     Proposal(u8),
     Lock,

@@ -23,7 +23,7 @@ pub const LAST_BEAT: u32 = 4 * LAST_VIEW + 6;
 // A bench is a validator. Its record is its head, and arrays with a place for each sender: any bytes are one. A flag is a number,
 // zero for no and any other for yes.
 #[repr(C)]
-#[derive(Drop)]
+#[derive(Clone, Copy)]
 pub struct Head {
     // the last begun beat plus one, zero where none was begun
     pub next: u32,
@@ -42,7 +42,7 @@ pub struct Head {
 }
 
 #[repr(C)]
-#[derive(Drop)]
+#[derive(Clone, Copy)]
 pub struct Bench {
     // the priority of each sender's proposal, and the blocks of each log: in the agreements, and proposed
     pub priorities: [u64; 32],
@@ -53,14 +53,14 @@ pub struct Bench {
 }
 
 // The answer of Open and of Begin; each refusal is by its number.
-#[derive(Drop)]
+#[derive(Clone, Copy)]
 pub enum Start {
     Done,
     Refused(u8),
 }
 
 // The answer of Receive.
-#[derive(Drop)]
+#[derive(Clone, Copy)]
 pub enum Taken {
     First,
     Second,
@@ -69,7 +69,7 @@ pub enum Taken {
 }
 
 // The answer of Act: what it made, with its blocks. The message stands at the front of the outgoing buffer.
-#[derive(Drop)]
+#[derive(Clone, Copy)]
 pub enum Made {
     Nothing,
     Log(u8),
@@ -78,45 +78,45 @@ pub enum Made {
 }
 
 // The answer of Find: the place of the entry's block in the decided log, and the entry's place inside that block, both from 0.
-#[derive(Drop)]
+#[derive(Clone, Copy)]
 pub enum Entry {
     At(u8, u16),
     Refused(u8),
 }
 
 // An answer, and the record afterwards.
-#[derive(Drop)]
+#[derive(Clone, Copy)]
 pub struct Started {
     pub answer: Start,
     pub bench: Bench,
 }
 
-#[derive(Drop)]
+#[derive(Clone, Copy)]
 pub struct Received {
     pub answer: Taken,
     pub bench: Bench,
 }
 
-#[derive(Drop)]
+#[derive(Clone, Copy)]
 pub struct Acted {
     pub answer: Made,
     pub bench: Bench,
 }
 
 // The same where the record is held in its parts: an answer, and the head afterwards.
-#[derive(Drop)]
+#[derive(Clone, Copy)]
 pub struct StartedHead {
     pub answer: Start,
     pub head: Head,
 }
 
-#[derive(Drop)]
+#[derive(Clone, Copy)]
 pub struct ReceivedHead {
     pub answer: Taken,
     pub head: Head,
 }
 
-#[derive(Drop)]
+#[derive(Clone, Copy)]
 pub struct ActedHead {
     pub answer: Made,
     pub head: Head,
@@ -124,7 +124,7 @@ pub struct ActedHead {
 
 // A grade with its count, as an act reads it: the log it uses, and how many support it, or the empty log where there is none, among
 // how many senders.
-#[derive(Drop)]
+#[derive(Clone, Copy)]
 pub struct Counted {
     pub grade: Grade,
     pub supporters: usize,

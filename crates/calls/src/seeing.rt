@@ -20,7 +20,7 @@ use bench::{Head, PROPOSALS_PLACE};
 use message::MOST_BLOCKS;
 
 // The log voted for, which stands in the lists from this place on.
-#[derive(Drop)]
+#[derive(Clone, Copy)]
 pub(crate) enum Found {
     At(usize, u8),
     Nowhere,

@@ -5,13 +5,13 @@ use super::cells::{GRADE, SNAPSHOT, answer, lacking};
 use super::way::did;
 
 // An answer, and the view it is of.
-#[derive(Drop)]
+#[derive(Clone, Copy)]
 pub(crate) struct Mark {
     pub(crate) answer: usize,
     pub(crate) view: u32,
 }
 
-#[derive(Drop)]
+#[derive(Clone, Copy)]
 pub(crate) struct Line {
     pub(crate) reads: Mark,
     // what it does without snapshot one, and without two, of what it reads

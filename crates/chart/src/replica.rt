@@ -11,7 +11,7 @@ const BENCHES: u8 = 2;
 const SENDER: u8 = 1;
 
 // The record, the lent lists, and what came back last: of a message its answer, of a refused beginning its number, else 0.
-#[derive(Drop)]
+#[derive(Clone, Copy)]
 pub(crate) struct Replica {
     pub(crate) bench: Bench,
     names: [u64; LEAST_LENT],
@@ -21,7 +21,7 @@ pub(crate) struct Replica {
 }
 
 // A replica after its act, and what the act did: the message made, 0 for none, its view, and whether a log was decided.
-#[derive(Drop)]
+#[derive(Clone, Copy)]
 pub(crate) struct Deed {
     pub(crate) replica: Replica,
     pub(crate) made: usize,
@@ -43,7 +43,7 @@ fn taken(answer: Taken) -> usize {
 }
 
 // A made message by its number, its kind and blocks, and its view.
-#[derive(Drop)]
+#[derive(Clone, Copy)]
 struct Said {
     made: usize,
     view: u32,

@@ -5,7 +5,7 @@ use super::beats::{beat_of, moved};
 use super::replica::{Deed, Replica};
 
 // What it has of an agreement: the LOG, snapshots one and two, and the PROPOSAL of the view after.
-#[derive(Drop)]
+#[derive(Clone, Copy)]
 struct Way {
     view: u32,
     log: bool,

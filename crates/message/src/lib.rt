@@ -8,7 +8,7 @@ pub mod store;
 pub mod writer;
 
 // The head of a message: its view, its sender, and the number of blocks of its log.
-#[derive(Drop)]
+#[derive(Clone, Copy)]
 pub struct Head {
     pub view: u32,
     pub sender: u8,
@@ -16,7 +16,7 @@ pub struct Head {
 }
 
 // The reader's answer: a LOG with its head, a PROPOSAL with its head and priority, or the number of the refusal.
-#[derive(Drop)]
+#[derive(Clone, Copy)]
 pub enum Message {
     Log(Head),
     Proposal(Head, u64),

@@ -12,7 +12,7 @@ use super::{MARK_LENGTH, SIZES_LENGTH};
 use bench::{Bench, MOST_BYTES};
 
 // The record after the calls, and where the text ends.
-#[derive(Drop)]
+#[derive(Clone, Copy)]
 pub(crate) struct Ran {
     pub(crate) bench: Bench,
     pub(crate) end: usize,

@@ -54,7 +54,7 @@ const RECEIVE_KIND: u8 = 2;
 const ACT_KIND: u8 = 3;
 
 // The body of an Act: the offered block, and the priority.
-#[derive(Drop)]
+#[derive(Clone, Copy)]
 pub struct Offer {
     pub name: u64,
     pub priority: u64,
@@ -62,14 +62,14 @@ pub struct Offer {
 }
 
 // What the call of an event answered, Begin's with the beat asked for; and the record's head afterwards.
-#[derive(Drop)]
+#[derive(Clone, Copy)]
 pub enum Answered {
     Begun(u32, Start),
     Taken(Taken),
     Acted(Made),
 }
 
-#[derive(Drop)]
+#[derive(Clone, Copy)]
 pub struct Called {
     pub answer: Answered,
     pub head: Head,

@@ -6,7 +6,7 @@ ghost use Rattle.schedules.specs.Gathering.{gathering_of, GatheringGives};
 use bench::{Bench, Made, Start, Taken};
 
 // The three answers, and the record afterwards.
-#[derive(Drop)]
+#[derive(Clone, Copy)]
 pub struct Gathered {
     pub started: Start,
     pub taken: Taken,

@@ -9,7 +9,7 @@ use message::MOST_BLOCKS;
 use script::{Clause, clause_at};
 
 // The record afterwards, and where the next clause starts.
-#[derive(Drop)]
+#[derive(Clone, Copy)]
 pub(crate) struct Turn {
     pub(crate) bench: Bench,
     pub(crate) next: usize,

@@ -11,7 +11,7 @@ const PLACES: usize = SPAN + MOST_BLOCKS;
 
 // The lists, the agreement and the blocks of its logs, the proposals with their blocks and priorities, the answer to the last
 // message, and the number of the lock's blocks.
-#[derive(Drop)]
+#[derive(Clone, Copy)]
 pub(crate) struct Row {
     names: [u64; PLACES],
     counts: [u16; PLACES],

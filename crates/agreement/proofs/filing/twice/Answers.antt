@@ -1,0 +1,4 @@
+use Rattle.agreement.proofs.filing.twice.Goals as goal
+
+pub returns : goal.returns
+returns c = cc

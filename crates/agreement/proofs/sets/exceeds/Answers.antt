@@ -1,0 +1,5 @@
+use Rattle.agreement.proofs.LimitLaws.{some_in}
+use Rattle.agreement.proofs.sets.exceeds.Goals as goal
+
+pub returns : goal.returns
+returns c = search some_in
