@@ -1,0 +1,6 @@
+use Rattle.run.proofs.TextLaws.{puts_after}
+use native.Mathlib.Omega.{arith}
+use Rattle.run.proofs.lines.put_refused.Goals as goal
+
+pub returns : goal.returns
+returns c = record { puts = search puts_after; upper_bound = omega arith }

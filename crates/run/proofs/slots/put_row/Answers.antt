@@ -1,0 +1,17 @@
+use Rattle.run.proofs.PageLaws.{row_next, row_put}
+use native.Mathlib.Omega.{arith}
+use mathlib.Core.Path.{refl}
+use Prim.Native.Nat.{◌-◌}
+use lib.ListN.{length, length-set}
+use Rattle.message.specs.Numbers.{put}
+use borrow.Author.Rules.{rules}
+use Rattle.run.proofs.slots.put_row.Goals as goal
+
+pub loop-i-init : goal.loop-i-init
+loop-i-init c = (search rules, search rules, search rules, refl, refl)
+
+pub loop-i-preserved : goal.loop-i-preserved
+loop-i-preserved c = (search rules, search rules, simp length-set (omega arith), simp length-set (omega arith), search row_next)
+
+pub returns : goal.returns
+returns c = record { puts = search row_put; value = omega arith }
