@@ -1,2 +1,0 @@
--- The steps that the walks of the three functions share.
-pub mod LentSteps
