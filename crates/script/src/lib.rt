@@ -3,13 +3,14 @@
 // the bar is written, and what stands behind it is read. A line that starts with # is a comment.
 #![tactic(auto)]
 
-ghost use Rattle.std.specs.Prelude.{◌≤◌, ◌-◌, length, ◌≡◌};
+ghost use Rattle.std.specs.Prelude.{◌≤◌, ◌-◌, length, ◌≡◌, IfOk};
 
-use libc::STDOUT_FILENO;
+use std::io;
+use std::io::Read;
 
 // What a clause says. A number is known by the mark before it, which is the last letter, bracket or slash: `numbers` has at each
 // mark the digits behind it, those of [5,6] as 56, and `digits` how many there are.
-#[derive(Drop)]
+#[derive(Clone, Copy)]
 pub struct Clause {
     // The first letter, 0 where there is none.
     pub word: u8,
@@ -29,7 +30,7 @@ pub struct Clause {
     kind: Kind,
 }
 
-#[derive(Drop)]
+#[derive(Clone, Copy)]
 enum Kind {
     Plain,
     Barred,
@@ -182,20 +183,22 @@ impl Clause {
     }
 
     // What is written of it.
-    pub fn write(self, script: &[u8]) {
+    pub fn write(self, rt: &impl Print, script: &[u8]) -> io::Result<()> {
         let from = self.from;
         let shown = self.shown;
         if shown <= script.len() {
             if from <= shown {
-                say(&script[from..shown]);
+                say(rt, &script[from..shown])?;
             }
         }
+        Ok(())
     }
 
-    pub fn write_end(self) {
+    pub fn write_end(self, rt: &impl Print) -> io::Result<()> {
         if self.end != 0 {
-            say(&[self.end]);
+            say(rt, &[self.end])?;
         }
+        Ok(())
     }
 }
 
@@ -216,10 +219,25 @@ pub fn clause_at(script: &[u8], from: usize) -> Clause
     c.ended(b'\n', at, at)
 }
 
-pub fn say(text: &[u8]) {
-    io::write_all(STDOUT_FILENO, text);
+pub fn say(rt: &impl Print, text: &[u8]) -> io::Result<()> {
+    rt.write_all(text)
 }
 
-pub fn say_number(x: u64) {
-    io::print_decimal(STDOUT_FILENO, x);
+pub fn say_number(rt: &impl Print, x: u64) -> io::Result<()> {
+    rt.print(x)
+}
+
+// Reads until the space is full or the input ends: how many bytes stand at its front.
+pub fn read_full<R: Read>(reader: &mut R, space: &mut [u8]) -> io::Result<usize>
+    ensures { IfOk result (λ n. n ≤ length space.new) }
+{
+    let mut done = 0;
+    while done < space.len() {
+        let n = reader.read(&mut space[done..])?;
+        if n == 0 {
+            break;
+        }
+        done += n;
+    }
+    Ok(done)
 }
