@@ -3,6 +3,7 @@ use super::cells::{COLUMNS, ROWS, cell};
 use super::lines::{Line, Mark, line_at};
 use super::words::say_word;
 use script::{Clause, say, say_number};
+use std::io;
 
 // The view whose chart is written.
 pub(crate) const FIRST: u32 = 1;
@@ -45,34 +46,36 @@ fn is_alike(v: u32) -> bool {
 }
 
 // Writes the view down where its chart is unlike; gives 1 where one was so far.
-fn say_other(script: &[u8], unlike: usize, v: u32) -> usize {
+fn say_other(rt: &impl Print, script: &[u8], unlike: usize, v: u32) -> io::Result<usize> {
     if is_alike(v) {
-        return unlike;
+        return Ok(unlike);
     }
-    say_word(script, b'U', unlike);
-    say_number(v as u64);
-    1
+    say_word(rt, script, b'U', unlike)?;
+    say_number(rt, v as u64)?;
+    Ok(1)
 }
 
 // The other views stand behind the letters from a to h.
-fn say_asked(c: Clause) {
+fn say_asked(rt: &impl Print, c: Clause) -> io::Result<()> {
     for letter in b'a'..b'i' {
-        say(b", ");
-        say_number(c.number(letter));
+        say(rt, b", ")?;
+        say_number(rt, c.number(letter))?;
     }
+    Ok(())
 }
 
-fn say_others(script: &[u8], c: Clause) {
+fn say_others(rt: &impl Print, script: &[u8], c: Clause) -> io::Result<()> {
     let mut unlike = 0;
     for letter in b'a'..b'i' {
-        unlike = say_other(script, unlike, c.long(letter));
+        unlike = say_other(rt, script, unlike, c.long(letter))?;
     }
-    say_word(script, b'A', unlike);
+    say_word(rt, script, b'A', unlike)?;
+    Ok(())
 }
 
 // Which are asked, and which of them are unlike.
-pub(crate) fn say_comparison(script: &[u8], c: Clause) {
-    say_asked(c);
-    say(b": ");
-    say_others(script, c);
+pub(crate) fn say_comparison(rt: &impl Print, script: &[u8], c: Clause) -> io::Result<()> {
+    say_asked(rt, c)?;
+    say(rt, b": ")?;
+    say_others(rt, script, c)
 }

@@ -14,27 +14,29 @@ mod requests;
 mod way;
 mod words;
 
-use script::clause_at;
+use script::{clause_at, read_full};
+use std::io;
 
 // Twice as long as the script, so that lines can be added; what does not fit is not read.
 const MOST: usize = 8192;
 
 // A clause with a capital letter is a word, to be written with the answers.
-fn run(script: &[u8]) {
+fn run(rt: &impl Print, script: &[u8]) -> io::Result<()> {
     let mut at = 0;
     while at < script.len() {
         let c = clause_at(script, at);
         if c.capital == 0 {
-            c.write(script);
-            requests::take(script, c);
-            c.write_end();
+            c.write(rt, script)?;
+            requests::take(rt, script, c)?;
+            c.write_end(rt)?;
         }
         at = c.next;
     }
+    Ok(())
 }
 
-fn main() {
+fn main(rt: HostRuntime) -> io::Result<()> {
     let mut space = [0u8; MOST];
-    let length = io::read_full(0, &mut space);
-    run(&space[..length]);
+    let length = read_full(&mut rt.reader(), &mut space)?;
+    run(&rt, &space[..length])
 }

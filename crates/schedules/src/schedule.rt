@@ -6,6 +6,7 @@ use super::form::{LONGEST, front};
 use super::print::{say_entry, say_made, say_start, say_taken};
 use bench::{Bench, LEAST_LENT, MOST_BYTES};
 use script::Clause;
+use std::io;
 
 // The length that the clause has behind this mark, at most that of all there is; all there is where it has none.
 pub(crate) fn length(c: Clause, mark: u8, most: usize) -> usize
@@ -23,7 +24,13 @@ pub(crate) fn length(c: Clause, mark: u8, most: usize) -> usize
 
 // "bench 0 of 4", of which no answer is written, or "open 0 of 4", also with the length of a list, as "name 6207", "count 6207" or
 // "total 63". The number of its own stands behind one of the two words.
-fn open(c: Clause, names: &[u64], counts: &[u16], totals: &[u32]) -> Bench {
+fn open(
+    rt: &impl Print,
+    c: Clause,
+    names: &[u64],
+    counts: &[u16],
+    totals: &[u32],
+) -> io::Result<Bench> {
     let own = c.byte(b'h') | c.byte(b'n');
     let i = length(c, b'e', names.len());
     let j = length(c, b't', counts.len());
@@ -37,54 +44,57 @@ fn open(c: Clause, names: &[u64], counts: &[u16], totals: &[u32]) -> Bench {
     );
     if c.word == b'o' {
         let answer = opened.answer;
-        say_start(answer);
+        say_start(rt, answer)?;
     }
-    opened.bench
+    Ok(opened.bench)
 }
 
 // One of these, or "begin 4". This call and those below may say the length of the totals, as "total 63".
 pub(crate) fn start(
+    rt: &impl Print,
     c: Clause,
     before: Bench,
     names: &[u64],
     counts: &[u16],
     totals: &[u32],
-) -> Bench {
+) -> io::Result<Bench> {
     if (c.word == b'o') | (0 < c.digits(b'h')) {
-        return open(c, names, counts, totals);
+        return open(rt, c, names, counts, totals);
     }
     let k = length(c, b'l', totals.len());
     let started = calls::begin(before, names, counts, &totals[0..k], c.long(b'n'));
     let answer = started.answer;
-    say_start(answer);
-    started.bench
+    say_start(rt, answer)?;
+    Ok(started.bench)
 }
 
 // "view 1 LOG [5] from 1"
 pub(crate) fn receive(
+    rt: &impl Print,
     c: Clause,
     before: Bench,
     names: &mut [u64; LEAST_LENT],
     counts: &mut [u16; LEAST_LENT],
     totals: &[u32],
-) -> Bench {
+) -> io::Result<Bench> {
     let mut bytes = [0u8; LONGEST];
     form::write(&mut bytes, c);
     let k = length(c, b'l', totals.len());
     let received = calls::receive(before, names, counts, &totals[0..k], front(&bytes, c));
     let answer = received.answer;
-    say_taken(answer);
-    received.bench
+    say_taken(rt, answer)?;
+    Ok(received.bench)
 }
 
 // "act", "act offering 5, priority 9" or "act into 655 bytes". The offered block has one entry.
 pub(crate) fn act(
+    rt: &impl Print,
     c: Clause,
     before: Bench,
     names: &mut [u64; LEAST_LENT],
     counts: &mut [u16; LEAST_LENT],
     totals: &mut [u32],
-) -> Bench {
+) -> io::Result<Bench> {
     let mut out = [0u8; MOST_BYTES];
     let size = length(c, b'o', MOST_BYTES);
     let k = length(c, b'l', totals.len());
@@ -100,22 +110,23 @@ pub(crate) fn act(
     );
     let answer = acted.answer;
     let bench = acted.bench;
-    say_made(answer, bench);
-    bench
+    say_made(rt, answer, bench)?;
+    Ok(bench)
 }
 
 // "find 4": the record is as it was.
 pub(crate) fn find(
+    rt: &impl Print,
     c: Clause,
     before: Bench,
     names: &[u64],
     counts: &[u16],
     totals: &[u32],
-) -> Bench {
+) -> io::Result<Bench> {
     let k = length(c, b'l', totals.len());
     let answer = calls::find(before, names, counts, &totals[0..k], c.long(b'd'));
-    say_entry(answer);
-    before
+    say_entry(rt, answer)?;
+    Ok(before)
 }
 
 // "total 2 to 9" is no call: that total is written over, as nobody should.

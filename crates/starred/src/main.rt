@@ -6,23 +6,25 @@ mod log;
 mod row;
 
 use row::Row;
-use script::clause_at;
+use script::{clause_at, read_full};
+use std::io;
 
 // Clause after clause: it is written, then taken, and what it asks for stands behind it.
-fn run(script: &[u8]) {
+fn run(rt: &impl Print, script: &[u8]) -> io::Result<()> {
     let mut row = Row::empty();
     let mut at = 0;
     while at < script.len() {
         let c = clause_at(script, at);
-        c.write(script);
-        row = row.after(c);
-        c.write_end();
+        c.write(rt, script)?;
+        row = row.after(rt, c)?;
+        c.write_end(rt)?;
         at = c.next;
     }
+    Ok(())
 }
 
-fn main() {
+fn main(rt: HostRuntime) -> io::Result<()> {
     let mut space = [0u8; 8192];
-    let length = io::read_full(0, &mut space);
-    run(&space[..length]);
+    let length = read_full(&mut rt.reader(), &mut space)?;
+    run(&rt, &space[..length])
 }

@@ -3,6 +3,7 @@ use super::log::{front, log_bytes, proposal_bytes};
 use agreement::{Answer, Choice, Grade, Marks, SPAN, Shown, filing, grading, proposing};
 use message::MOST_BLOCKS;
 use script::{Clause, say, say_number};
+use std::io;
 
 // The lock stands in the lists past the logs of all senders, as the log of one more.
 const LOCK: u8 = 32;
@@ -24,16 +25,16 @@ pub(crate) struct Row {
     lock: u8,
 }
 
-fn say_answer(answer: Answer) {
+fn say_answer(rt: &impl Print, answer: Answer) -> io::Result<()> {
     match answer {
-        Answer::First => say(b"first"),
-        Answer::Second => say(b"second"),
-        Answer::Known => say(b"known"),
+        Answer::First => say(rt, b"first"),
+        Answer::Second => say(rt, b"second"),
+        Answer::Known => say(rt, b"known"),
     }
 }
 
-fn say_byte(b: u8) {
-    say(&[b]);
+fn say_byte(rt: &impl Print, b: u8) -> io::Result<()> {
+    say(rt, &[b])
 }
 
 impl Row {
@@ -145,61 +146,63 @@ impl Row {
     // ---- the clauses that ask
 
     // The name, and the entry count where it is not 1.
-    fn say_block(self, at: usize) {
+    fn say_block(self, rt: &impl Print, at: usize) -> io::Result<()> {
         if at < PLACES {
             let count = self.counts[at];
-            say_number(self.names[at]);
+            say_number(rt, self.names[at])?;
             if count != 1 {
-                say_byte(b'/');
-                say_number(count as u64);
+                say_byte(rt, b'/')?;
+                say_number(rt, count as u64)?;
             }
         }
+        Ok(())
     }
 
     // The log at this sender's place, its blocks in brackets; of more than three, the first three and how many there are.
-    fn say_log(self, sender: u8, blocks: u8) {
+    fn say_log(self, rt: &impl Print, sender: u8, blocks: u8) -> io::Result<()> {
         let at = MOST_BLOCKS * (sender as usize);
-        say_byte(b'[');
+        say_byte(rt, b'[')?;
         if 0 < blocks {
-            self.say_block(at);
+            self.say_block(rt, at)?;
         }
         if 1 < blocks {
-            say_byte(b',');
-            self.say_block(at + 1);
+            say_byte(rt, b',')?;
+            self.say_block(rt, at + 1)?;
         }
         if 2 < blocks {
-            say_byte(b',');
-            self.say_block(at + 2);
+            say_byte(rt, b',')?;
+            self.say_block(rt, at + 2)?;
         }
         if 3 < blocks {
-            say(b",.. of ");
-            say_number(blocks as u64);
+            say(rt, b",.. of ")?;
+            say_number(rt, blocks as u64)?;
         }
-        say_byte(b']');
+        say_byte(rt, b']')
     }
 
-    fn say_grade(self, grade: u8) {
+    fn say_grade(self, rt: &impl Print, grade: u8) -> io::Result<()> {
         let lengths = self.lengths;
         let names = self.names;
         let counts = self.counts;
         let found = grading::grade(self.marks, &lengths, &names, &counts, 0, grade);
         match found {
-            Grade::Longest(sender, blocks) => self.say_log(sender, blocks),
-            Grade::Nothing => say(b"none"),
+            Grade::Longest(sender, blocks) => self.say_log(rt, sender, blocks),
+            Grade::Nothing => say(rt, b"none"),
         }
     }
 
     // Sender i and the log of its proposal.
-    fn say_proposal(self, i: u8) {
-        say_number(i as u64);
-        say_byte(b' ');
+    fn say_proposal(self, rt: &impl Print, i: u8) -> io::Result<()> {
+        say_number(rt, i as u64)?;
+        say_byte(rt, b' ')?;
         if i < LOCK {
-            self.say_log(i, self.proposed[i as usize]);
+            self.say_log(rt, i, self.proposed[i as usize])?;
         }
+        Ok(())
     }
 
     // Whose proposal is voted for, or the lock, and the log of the vote.
-    fn say_vote(self) {
+    fn say_vote(self, rt: &impl Print) -> io::Result<()> {
         let proposed = self.proposed;
         let priorities = self.priorities;
         let names = self.names;
@@ -215,39 +218,39 @@ impl Row {
             self.lock as usize,
         );
         match choice {
-            Choice::Proposal(i) => self.say_proposal(i),
+            Choice::Proposal(i) => self.say_proposal(rt, i),
             Choice::Lock => {
-                say(b"lock ");
-                self.say_log(LOCK, self.lock);
+                say(rt, b"lock ")?;
+                self.say_log(rt, LOCK, self.lock)
             }
         }
     }
 
     // What the clause asks for, behind a colon.
-    fn say_found(self, c: Clause) {
+    fn say_found(self, rt: &impl Print, c: Clause) -> io::Result<()> {
         let word = c.word;
         let answer = self.answer;
-        say_byte(b':');
-        say_byte(b' ');
+        say_byte(rt, b':')?;
+        say_byte(rt, b' ')?;
         match word {
-            b'g' => self.say_grade(c.byte(b'e')),
-            b'a' => say_answer(answer),
-            _ => self.say_vote(),
+            b'g' => self.say_grade(rt, c.byte(b'e')),
+            b'a' => say_answer(rt, answer),
+            _ => self.say_vote(rt),
         }
     }
 
     // The row after this clause. The clause that ends the line asks, and the next row starts from nothing.
-    pub(crate) fn after(self, c: Clause) -> Row {
+    pub(crate) fn after(self, rt: &impl Print, c: Clause) -> io::Result<Row> {
         if c.end == b'\n' {
-            self.say_found(c);
-            return Row::empty();
+            self.say_found(rt, c)?;
+            return Ok(Row::empty());
         }
         let word = c.word;
-        match word {
+        Ok(match word {
             b's' => self.send_or_snap(c),
             b'p' => self.propose(c),
             b'l' => self.set_lock(c),
             _ => self,
-        }
+        })
     }
 }

@@ -3,6 +3,7 @@
 use super::print::{say_read, say_yes};
 use message::{BLOCK_WIDTH, HEAD_LENGTH, MOST_BLOCKS, store, writer};
 use script::{Clause, say_number};
+use std::io;
 
 // The longest message; the writer's buffer has room for just that.
 pub(crate) const MOST_BYTES: usize = HEAD_LENGTH + BLOCK_WIDTH * MOST_BLOCKS;
@@ -31,10 +32,11 @@ fn byte_at(out: &[u8; MOST_BYTES], at: usize) -> u8 {
     0
 }
 
-fn say_name(names: &[u64; 128], at: usize) {
+fn say_name(rt: &impl Print, names: &[u64; 128], at: usize) -> io::Result<()> {
     if at < 128 {
-        say_number(names[at]);
+        say_number(rt, names[at])?;
     }
+    Ok(())
 }
 
 // Writing the log as a LOG or, with a block more, as a PROPOSAL; filing it, comparing it, copying it.
@@ -71,21 +73,23 @@ fn calls(
 }
 
 pub(crate) fn take(
+    rt: &impl Print,
     c: Clause,
     bytes: &mut [u8; 666],
     out: &mut [u8; MOST_BYTES],
     names: &mut [u64; 128],
     counts: &mut [u16; 128],
-) {
+) -> io::Result<()> {
     let word = c.word;
     match word {
         0 => {}
-        b'r' => say_read(bytes, c.place(b's')),
-        b'a' => say_read(out, c.place(b's')),
+        b'r' => say_read(rt, bytes, c.place(b's'))?,
+        b'a' => say_read(rt, out, c.place(b's'))?,
         b'b' => set_block(c, names, counts),
         b'e' => set_byte(c, bytes),
-        b'l' => say_number(byte_at(out, c.place(b'e')) as u64),
-        b'n' => say_name(names, c.place(b'e')),
-        _ => say_yes(calls(c, out, names, counts), c.end),
+        b'l' => say_number(rt, byte_at(out, c.place(b'e')) as u64)?,
+        b'n' => say_name(rt, names, c.place(b'e'))?,
+        _ => say_yes(rt, calls(c, out, names, counts), c.end)?,
     }
+    Ok(())
 }
