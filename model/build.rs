@@ -1,12 +1,12 @@
-//! Links the proved library that `rt staticlib cervakho` writes.
+//! Links the proved library that `rt lib`, in the folder of the crate cervakho, writes.
 use std::path::Path;
 
 fn main() {
-    let folder = Path::new(env!("CARGO_MANIFEST_DIR")).join("../target/staticlib");
+    let folder = Path::new(env!("CARGO_MANIFEST_DIR")).join("../crates/cervakho/out");
     let library = folder.join("libcervakho.a");
     if !library.exists() {
         panic!(
-            "{} is missing: `rt staticlib cervakho` proves the library and writes it",
+            "{} is missing: `rt lib` in crates/cervakho proves the library and writes it",
             library.display()
         );
     }
