@@ -22,7 +22,7 @@ use Rattle.bench.specs.Calendar.{last_view, view_beat, input_beat, snapshot_beat
 use Rattle.bench.specs.Calls.{act, acted, open_to, Typed, State, Core, core_of}
 use Rattle.bench.specs.Acts.{Seen, may_propose, is_view, propose, vote, makes, out_after, decides, settle}
 use Rattle.bench.specs.Causes.{act_causes}
-use Rattle.bench.specs.History.{History, beat_now, refusal, seen_at, made_by, decided_by, file_made, closed, accepted, answer}
+use Rattle.bench.specs.History.{History, beat_now, refusal, seen_at, made_by, decided_by, file_made, closed, accepted}
 use Rattle.bench.specs.History.{accepted_answer, stand_in}
 use Rattle.bench.specs.Record.{agreement_of, proposals_of, beat_of, idle, Bench}
 use Rattle.bench.specs.ByRecord.{act_step, used_of, seen_of, snapped_by, snapped, changed, with_made, acted_of, over, acted_now, act_of}

@@ -1,7 +1,7 @@
 -- The outgoing buffer after an Act, for every record, list, offer and buffer: a made message stands at its front, and the bytes past it
 -- keep their values; where nothing is made, refused Acts included, all of them do. A made message always has room: it has 64 blocks at the
 -- most. The other calls have no buffer. Assumes nothing.
-use Prim.Native.Nat.{ℕ, zero, suc, ◌+◌, ◌≤◌, ◌<◌}
+use Prim.Native.Nat.{ℕ, zero, suc, ◌≤◌, ◌<◌}
 use native.Mathlib.Omega.{arith}
 use mathlib.Core.Bool.{false, not, and-eq-true_iff}
 use mathlib.Core.List.{List, [], ◌∷◌, ◌++◌}

@@ -90,9 +90,9 @@ module _ {next : ℕ} {p : History} (since : Since next p) (u : ℕ) where
             ∙ sym (heard_no_view p.heard u i (λ m j e. let k = since.logs m j in omega arith));
         snapshots = λ (k : SnapshotNumber). elim k as (λ (k : SnapshotNumber).
             snapshot_in (snapshot_at k (empty_agreement u).marks) ≡ snapshot_took p k u) [
-          | one ↦ none-at (snapshot_beat one u) (omega arith)
-          | two ↦ none-at (snapshot_beat two u) (omega arith)
-        ];
+              | one ↦ none-at (snapshot_beat one u) (omega arith)
+              | two ↦ none-at (snapshot_beat two u) (omega arith)
+            ];
       }
 
   pub empty_proposals_holds : (ns cs : List ℕ) → next ≤ view_beat u → HoldsProposals ns cs (empty_proposals u) p u

@@ -1,5 +1,5 @@
 -- Filing a LOG does to the record what it does to the history, and answers the same word. Assumes nothing.
-use Prim.Native.Nat.{ℕ, ◌+◌, ◌-◌, ◌^◌, ◌≤◌, ◌<◌}
+use Prim.Native.Nat.{ℕ, ◌+◌, ◌^◌, ◌≤◌, ◌<◌}
 use native.Mathlib.Decide.{ℕ_discrete}
 use native.Mathlib.Omega.{arith}
 use mathlib.Core.Bool.{true, not, ◌||◌}
@@ -119,9 +119,9 @@ module _ (S : Seat) (s : Core) (p : History) (t : Refines S s p) (bytes : List �
     ];
     snapshots = λ (k : SnapshotNumber). elim k as (λ (k : SnapshotNumber).
         snapshot_in (snapshot_at k r.agreement.marks) ≡ snapshot_took q k m.view) [
-      | one ↦ ap snapshot_in rest.one ∙ before.snapshots one
-      | two ↦ ap snapshot_in rest.two ∙ before.snapshots two
-    ];
+          | one ↦ ap snapshot_in rest.one ∙ before.snapshots one
+          | two ↦ ap snapshot_in rest.two ∙ before.snapshots two
+        ];
   }
     where
       rest : SameRest g r.agreement

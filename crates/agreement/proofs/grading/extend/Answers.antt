@@ -1,5 +1,4 @@
 use Rattle.agreement.proofs.ExtendLaws.{follow_all, follow_same, follow_far, far_few, follow_majority, top_majority, top_full}
-use Prim.Native.Nat.{◌-◌}
 use borrow.Author.Rules.{rules}
 use Rattle.agreement.proofs.grading.extend.Goals as goal
 

@@ -1,6 +1,4 @@
 use Rattle.agreement.proofs.NarrowLaws.{alike_none, alike_next, alike_all}
-use Prim.Native.Nat.{◌-◌}
-use Rattle.agreement.specs.Steps.{alike}
 use borrow.Author.Rules.{rules}
 use Rattle.agreement.proofs.grading.same_chunk.Goals as goal
 

@@ -1,6 +1,5 @@
 use Rattle.agreement.proofs.CountLaws.{some_none, rows_next}
 use Rattle.agreement.proofs.LimitLaws.{rows_over}
-use Prim.Native.Nat.{◌-◌}
 use native.Mathlib.Omega.{arith}
 use mathlib.Core.Path.{refl}
 use borrow.Author.Rules.{rules}

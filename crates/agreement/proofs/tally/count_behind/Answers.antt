@@ -1,7 +1,5 @@
 use Rattle.agreement.proofs.CountLaws.{count_none, count_next_by, count_all}
 use native.Mathlib.Omega.{arith}
-use Prim.Native.Nat.{◌-◌}
-use Rattle.agreement.specs.Sets.{count}
 use borrow.Author.Rules.{rules}
 use Rattle.agreement.proofs.tally.count_behind.Goals as goal
 

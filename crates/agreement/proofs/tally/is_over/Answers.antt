@@ -1,5 +1,4 @@
 use Rattle.agreement.proofs.CountLaws.{some_none, over_next, some_all}
-use Prim.Native.Nat.{◌-◌}
 use mathlib.Core.Path.{refl}
 use borrow.Author.Rules.{rules}
 use Rattle.agreement.proofs.tally.is_over.Goals as goal

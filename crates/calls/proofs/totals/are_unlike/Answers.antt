@@ -1,4 +1,4 @@
-use Prim.Native.Nat.{◌+◌, ◌-◌}
+use Prim.Native.Nat.{◌+◌}
 use native.Mathlib.Omega.{arith}
 use Rattle.calls.proofs.TotalWalks.{sum_starts, sum_on, sum_off, sum_end}
 use Rattle.calls.proofs.totals.are_unlike.Goals as goal

@@ -1,4 +1,3 @@
-use Prim.Native.Nat.{◌-◌}
 use Rattle.calls.proofs.TotalWalks.{seek_starts, seek_found, seek_on, seek_fits, seek_end}
 use Rattle.calls.proofs.totals.find_in.Goals as goal
 

@@ -1,4 +1,3 @@
-use Prim.Native.Nat.{◌-◌}
 use native.Mathlib.Omega.{arith}
 use Rattle.calls.proofs.TotalWalks.{write_starts, write_on, write_end}
 use Rattle.calls.proofs.totals.write_totals.Goals as goal

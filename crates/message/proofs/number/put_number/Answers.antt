@@ -1,8 +1,7 @@
 use Rattle.message.proofs.LoopLaws.{put_byte, put_no_byte}
 use native.Mathlib.Omega.{arith}
 use mathlib.Core.Path.{refl, sym, ◌∙◌}
-use lib.ListN.{length, length-set}
-use Rattle.message.specs.Numbers.{put}
+use lib.ListN.{length-set}
 use borrow.Author.Rules.{rules}
 use Rattle.message.proofs.number.put_number.Goals as goal
 

@@ -1,5 +1,4 @@
 use Rattle.message.proofs.StoreLaws.{walk_starts, walk_on, walk_off, walk_end}
-use Prim.Native.Nat.{◌-◌}
 use Rattle.message.proofs.store.shared_blocks.Goals as goal
 
 pub loop-i-init : goal.loop-i-init

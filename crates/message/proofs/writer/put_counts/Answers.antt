@@ -1,6 +1,5 @@
 use Rattle.message.proofs.LoopLaws.{put_starts, put_next, put_end}
 use native.Mathlib.Omega.{arith}
-use Rattle.message.specs.Numbers.{put}
 use Rattle.message.proofs.writer.put_counts.Goals as goal
 
 pub loop-k-init : goal.loop-k-init

@@ -1,5 +1,4 @@
 use Rattle.message.proofs.LoopLaws.{put_starts, put_next, put_end}
-use Rattle.message.specs.Numbers.{put}
 use Rattle.message.proofs.writer.put_names.Goals as goal
 
 pub loop-k-init : goal.loop-k-init

@@ -2,8 +2,6 @@ use Rattle.run.proofs.HeldLaws.{lies_within, line_room_lem, room_next, ahead_sta
 use Rattle.run.proofs.RollForm.{fit_start, fit_next, marked}
 use native.Mathlib.Omega.{arith}
 use mathlib.Core.Path.{refl, ◌∙◌}
-use Prim.Native.Nat.{◌-◌}
-use lib.ListN.{length}
 use borrow.Author.Rules.{rules}
 use Rattle.run.proofs.events.run_events.Goals as goal
 

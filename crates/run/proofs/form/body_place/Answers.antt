@@ -1,7 +1,6 @@
 use Rattle.run.proofs.RollForm.{marked}
 use Rattle.run.proofs.HeldLaws.{body_start, body_next, body_end}
 use native.Mathlib.Omega.{arith}
-use Prim.Native.Nat.{◌-◌}
 use borrow.Author.Rules.{rules}
 use Rattle.run.proofs.form.body_place.Goals as goal
 

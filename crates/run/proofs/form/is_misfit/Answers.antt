@@ -1,5 +1,4 @@
 use Rattle.run.proofs.RollForm.{marks_start, mark_next, marks_end}
-use Prim.Native.Nat.{◌-◌}
 use borrow.Author.Rules.{rules}
 use Rattle.run.proofs.form.is_misfit.Goals as goal
 

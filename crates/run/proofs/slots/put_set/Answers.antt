@@ -1,9 +1,7 @@
 use Rattle.run.proofs.PageLaws.{flag_next, set-put}
 use native.Mathlib.Omega.{arith}
 use mathlib.Core.Path.{refl}
-use Prim.Native.Nat.{◌-◌}
-use lib.ListN.{length, length-set}
-use Rattle.message.specs.Numbers.{put}
+use lib.ListN.{length-set}
 use borrow.Author.Rules.{rules}
 use Rattle.run.proofs.slots.put_set.Goals as goal
 

@@ -1,8 +1,7 @@
 use Rattle.run.proofs.TextLaws.{word_next, word_end}
 use native.Mathlib.Omega.{arith}
 use mathlib.Core.Path.{refl}
-use Prim.Native.Nat.{◌-◌}
-use lib.ListN.{length, length-set}
+use lib.ListN.{length-set}
 use borrow.Author.Rules.{rules}
 use Rattle.run.proofs.texts.put_word.Goals as goal
 
