@@ -92,6 +92,10 @@ impl<'a> Item<'a> {
                 is_block: true,
                 names: vec![name],
             },
+            ["ruleset", name, "=", ..] => Item {
+                is_block: false,
+                names: vec![name],
+            },
             _ => Item {
                 is_block: false,
                 names: typed(words),

@@ -185,7 +185,7 @@ fn promises(tree: &Tree) -> usize {
     sources(tree).iter().map(|(_, text)| public_lines(text)).sum()
 }
 
-/// The library of the test programs says nothing of the engine.
+/// The library of the programs says nothing of the engine.
 const OF_TESTS: &str = "crates/script/";
 
 fn sources(tree: &Tree) -> Vec<(&str, &str)> {

@@ -9,7 +9,11 @@ pub fn declared(text: &str) -> BTreeSet<String> {
         let rest = &tokens[next..];
         next += match rest[0].as_str() {
             "use" => upto(rest, ";"),
-            "ensures" | "requires" | "invariant" | "decreases" => past_braces(rest),
+            "ensures" | "requires" => past_braces(rest),
+            "ghost" if ghost(rest).is_some() => {
+                names.extend(ghost(rest));
+                past_braces(rest)
+            }
             "fn" | "const" | "static" | "type" | "trait" | "mod" | "struct" | "enum" => {
                 names.extend(name_after(rest));
                 names.extend(members(rest));
@@ -28,6 +32,13 @@ fn name_after(rest: &[String]) -> Option<String> {
     (!is_value || rest.get(2)? == ":").then(|| name.clone())
 }
 
+/// The name of a ghost field or member: `ghost name: { .. }`, `ghost name = { .. }`.
+fn ghost(rest: &[String]) -> Option<String> {
+    let [_, name, mark, brace, ..] = rest else { return None };
+    let is_ghost = is_word(name) && matches!(mark.as_str(), ":" | "=") && brace == "{";
+    is_ghost.then(|| name.clone())
+}
+
 /// The fields of a struct, the variants of an enum.
 fn members(rest: &[String]) -> Vec<String> {
     let is_enum = rest[0] == "enum";
@@ -38,7 +49,9 @@ fn members(rest: &[String]) -> Vec<String> {
     let close = open + past_braces(&rest[open..]);
     let entries = entries(&rest[open + 1..close - 1]);
     let names = entries.iter().filter_map(|entry| {
-        let name = entry.iter().find(|token| is_word(token) && **token != "pub")?;
+        let name = entry
+            .iter()
+            .find(|token| is_word(token) && !matches!(token.as_str(), "pub" | "ghost"))?;
         Some(name.to_string())
     });
     names.collect()

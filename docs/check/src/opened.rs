@@ -1,8 +1,9 @@
-//! Laws and proofs cite the promises of another crate and open none of its definitions by their text (`unfolding`).
+//! Laws and proofs cite the promises of another crate and open none of its definitions by their text: on a line `unfolding`, by
+//! `unfold .. in`, or in the `unfolding(..)` of a function's attribute.
 use crate::antt::without_comment;
 use crate::finding::Finding;
 use crate::tree::{crate_of, Tree};
-use std::collections::BTreeMap;
+use std::collections::{BTreeMap, BTreeSet};
 
 /// Tables of computed facts, which open whatever they compute with; no law is opened through them.
 const TABLES: [&str; 13] = [
@@ -23,23 +24,63 @@ const TABLES: [&str; 13] = [
 
 /// Each opening outside the tables.
 pub fn check(tree: &Tree) -> Vec<Finding> {
-    let laws = tree.files().filter(|(path, _)| is_law(path) && !TABLES.contains(path));
-    laws.flat_map(|(path, text)| openings(path, text)).collect()
+    let crates = tree.crates();
+    let read = tree.files().filter(|(path, _)| !TABLES.contains(path));
+    read.flat_map(|(path, text)| match part_of(path) {
+        Some(Part::Laws) => openings(path, text, &crates),
+        Some(Part::Code) => attributes(path, text, &crates),
+        None => vec![],
+    })
+    .collect()
 }
 
-fn is_law(path: &str) -> bool {
-    let within = crate_of(path).and_then(|name| path.strip_prefix(&format!("crates/{name}/")));
-    within.is_some_and(|rest| (rest.starts_with("specs/") || rest.starts_with("proofs/")) && rest.ends_with(".antt"))
+enum Part {
+    Laws,
+    Code,
 }
 
-/// What a file opens of other crates and of the tables.
-fn openings(path: &str, text: &str) -> Vec<Finding> {
+fn part_of(path: &str) -> Option<Part> {
+    let (folder, _) = path.strip_prefix(&format!("crates/{}/", crate_of(path)?))?.split_once('/')?;
+    match folder {
+        "specs" | "proofs" if path.ends_with(".antt") => Some(Part::Laws),
+        "src" if path.ends_with(".rt") => Some(Part::Code),
+        _ => None,
+    }
+}
+
+fn told(path: &str, line: usize, (owner, name): (String, &str)) -> Finding {
+    Finding::new(path, line, format!("opens `{name}` of {owner} by its text: cite a law of it"))
+}
+
+/// What a file of laws opens of other crates and of the tables.
+fn openings(path: &str, text: &str, crates: &BTreeSet<&str>) -> Vec<Finding> {
     let lines: Vec<&str> = text.lines().map(without_comment).collect();
-    let names = Names::in_file(crate_of(path).unwrap_or_default(), &lines);
-    let opened = unfolded(&lines).into_iter();
-    let found = opened.filter_map(|(line, word)| Some((line, names.foreign(word)?)));
-    let told = |(owner, name)| format!("opens `{name}` of {owner} by its text: cite a law of it");
-    found.map(|(line, what)| Finding::new(path, line, told(what))).collect()
+    let names = Names::in_file(crate_of(path).unwrap_or_default(), crates, &lines);
+    let opened = unfolded(&lines).into_iter().chain(unfolded_in(&lines));
+    let mut found: Vec<(usize, &str)> = opened.collect();
+    found.sort();
+    let found = found
+        .into_iter()
+        .filter_map(|(line, word)| Some((line, names.foreign(word)?)));
+    found.map(|(line, what)| told(path, line, what)).collect()
+}
+
+/// What the attributes of a file of code open: paths such as `crate::specs::M::name`, in `unfolding(..)`.
+fn attributes(path: &str, text: &str, crates: &BTreeSet<&str>) -> Vec<Finding> {
+    let own = crate_of(path).unwrap_or_default();
+    let mut found = vec![];
+    for (place, mark) in text.match_indices("unfolding(") {
+        let line = 1 + text[..place].matches('\n').count();
+        let opened = text[place + mark.len()..].split(')').next().unwrap_or("");
+        for item in opened.split(',').map(str::trim) {
+            let module = format!("Rattle.{}", item.replace("::", ".").replacen("crate.", &format!("{own}."), 1));
+            let named = module
+                .rsplit_once('.')
+                .and_then(|(module, name)| Some((owner(own, crates, module)?, name.to_string())));
+            found.extend(named.map(|(owner, name)| told(path, line, (owner, &name))));
+        }
+    }
+    found
 }
 
 /// The words after each `unfolding`, with their lines: those of its line, and of the lines below that are further in.
@@ -61,15 +102,33 @@ fn unfolded<'a>(lines: &[&'a str]) -> Vec<(usize, &'a str)> {
     words
 }
 
+/// The words between `unfold` and the `in` of its line.
+fn unfolded_in<'a>(lines: &[&'a str]) -> Vec<(usize, &'a str)> {
+    let mut words = vec![];
+    for (place, line) in lines.iter().enumerate() {
+        let mut is_open = false;
+        for word in line.split([' ', '(', ')', '{', '}']) {
+            match word {
+                "unfold" => is_open = true,
+                "in" => is_open = false,
+                _ if is_open && !word.is_empty() => words.push((place + 1, word)),
+                _ => {}
+            }
+        }
+    }
+    words
+}
+
 /// What the words of a file stand for: a name of a module, or a module.
 struct Names<'a> {
     own: &'a str,
+    crates: &'a BTreeSet<&'a str>,
     names: BTreeMap<String, (String, String)>,
     modules: BTreeMap<String, String>,
 }
 
 impl<'a> Names<'a> {
-    fn in_file(own: &'a str, lines: &[&str]) -> Names<'a> {
+    fn in_file(own: &'a str, crates: &'a BTreeSet<&'a str>, lines: &[&str]) -> Names<'a> {
         let mut names = BTreeMap::new();
         let mut modules = BTreeMap::new();
         for import in imports(lines) {
@@ -81,7 +140,12 @@ impl<'a> Names<'a> {
                 names.insert(alias.to_string(), (module.to_string(), name.to_string()));
             }
         }
-        Names { own, names, modules }
+        Names {
+            own,
+            crates,
+            names,
+            modules,
+        }
     }
 
     /// Whose a word is and its name there, where the crate may not open it.
@@ -91,7 +155,7 @@ impl<'a> Names<'a> {
             None => word.rsplit_once('.')?,
         };
         let module = self.modules.get(module).map_or(module, String::as_str);
-        Some((owner(self.own, module)?, name))
+        Some((owner(self.own, self.crates, module)?, name))
     }
 }
 
@@ -117,13 +181,12 @@ fn imports(lines: &[&str]) -> Vec<String> {
     all
 }
 
-/// Whose a module is: another crate's, or a table's; none where a crate may open it.
-fn owner(own: &str, module: &str) -> Option<String> {
-    let (part, path) = module.strip_prefix("Rattle·")?.split_once('.')?;
-    let name = part.split('·').next()?;
+/// Whose a module is: another crate's of the repository, or a table's; none where a crate may open it.
+fn owner(own: &str, crates: &BTreeSet<&str>, module: &str) -> Option<String> {
+    let (name, path) = module.strip_prefix("Rattle.")?.split_once('.')?;
     let file = format!("crates/{name}/{}.antt", path.replace('.', "/"));
     if name != own {
-        Some(format!("crate {name}"))
+        crates.contains(name).then(|| format!("crate {name}"))
     } else {
         TABLES.contains(&file.as_str()).then(|| format!("the table {file}"))
     }

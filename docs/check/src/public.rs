@@ -6,15 +6,15 @@ pub fn lines_said(text: &str) -> usize {
     text.lines().map(str::trim).filter(says).count()
 }
 
-/// How many lines of a file of code declare what is public and no comment: types, and functions that promise something, up to
-/// their bodies.
+/// How many lines of a file of code declare what is public and no comment: types and traits, what clauses see a type as (its
+/// `impl Model`), and functions that promise something, up to their bodies.
 pub fn public_lines(text: &str) -> usize {
     let lines: Vec<&str> = text.lines().collect();
     let items = (0..lines.len()).map(|start| {
         let rest = &lines[start..];
         match words_of(rest[0]) {
-            ["pub", "struct" | "enum", ..] => declared(rest),
-            ["pub", "fn", ..] | ["pub", "extern", _, "fn", ..] => promised(rest),
+            ["pub", "struct" | "enum" | "trait", ..] | ["impl", "Model", "for", _] => declared(rest),
+            ["pub", "fn", ..] | ["pub", "const", "fn", _] | ["pub", "extern", _, "fn"] => promised(rest),
             _ => &[],
         }
     });

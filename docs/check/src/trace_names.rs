@@ -46,7 +46,7 @@ fn name_in(span: &Span) -> Option<&str> {
         .iter()
         .find_map(|word| code.strip_prefix(word))
         .unwrap_or(code);
-    let is_plain = |part: &str| part.chars().all(|c| c.is_alphanumeric() || "_-·′".contains(c)) && !part.is_empty();
+    let is_plain = |part: &str| part.chars().all(|c| c.is_alphanumeric() || "_-'◌".contains(c)) && !part.is_empty();
     (name.split("::").all(is_plain) && !KEYWORDS.contains(&name)).then_some(name)
 }
 

@@ -34,7 +34,7 @@ impl Tree {
             };
             // what is built is no source
             if entry.file_type()?.is_dir() {
-                if last != "target" && last != ".git" {
+                if last != "target" && last != "out" && last != ".git" {
                     self.read_folder(&entry.path(), &path)?;
                 }
             } else {

@@ -40,7 +40,7 @@ struct Hidden {
 }
 
 pub fn promise(x: u8) -> u8
-    ensures { true }
+    ensures { result ≡ x }
 {
     x
 }
@@ -50,7 +50,7 @@ pub fn nothing() {
 }
 
 pub(crate) fn within(x: u8) -> u8
-    ensures { true }
+    ensures { result ≡ x }
 {
     x
 }
@@ -61,7 +61,7 @@ fn tree() -> Tree {
         ("crates/a/specs/Lib.antt", "-- The list.\npub mod Words\n\npub mod More\n"),
         (
             "crates/a/specs/Words.antt",
-            "-- Words.\nuse a.B\n\nword : ℕ\n  -- said\nword = 0 -- so\n  + 1\n",
+            "-- Words.\nuse Rattle.a.specs.More.{more}\n\nword : ℕ\n  -- said\nword = 0 -- so\n  + 1\n",
         ),
         ("crates/a/specs/More.antt", "more : ℕ\nmore = 1\nagain : ℕ\n"),
         ("crates/a/specs/Steps.antt", "step : ℕ\n"),
@@ -132,12 +132,17 @@ fn blanks_and_comments_say_nothing() {
 #[test]
 fn public_types_and_promises_count() {
     assert_eq!(public_lines(CODE), 6);
-    let long = "#[no_mangle]\npub extern \"C\" fn f(\n    a: u8,\n) -> u8\n    requires { x }\n    ensures {\n        y\n    }\n{\n    0\n}\n";
-    assert_eq!(public_lines(long), 7);
+    let long = "#[unsafe(no_mangle)]\npub extern \"C\" fn f(\n    a: u8,\n) -> u8\n    requires { x }\n    ensures low {\n        y\n    }\n    \
+                ensures high { z }\n{\n    0\n}\n";
+    assert_eq!(public_lines(long), 8);
     let within = "impl A {\n    // a promise\n    pub fn f(self) -> u8\n        ensures { y }\n    {\n        0\n    }\n}\n";
     assert_eq!(public_lines(within), 2);
     let follows = "pub fn nothing() {\n}\n\npub(crate) fn f()\n    ensures { y }\n{\n}\n";
     assert_eq!(public_lines(follows), 0);
+    let seen = "#[derive(Drop)]\npub trait Way {\n    ghost law: { Self };\n}\n\nimpl Model for A {\n    // as a list\n    ghost view = { λ s. s };\n}\n";
+    assert_eq!(public_lines(seen), 6);
+    assert_eq!(public_lines("impl A {\n    fn f() {}\n}\n"), 0);
+    assert_eq!(public_lines("pub const fn f() -> u8\n    ensures { y }\n{\n}\n"), 2);
     assert_eq!(public_lines("pub enum Way {\n    By,\n    On(u8),\n}\npub struct Mark;\n"), 5);
 }
 

@@ -29,7 +29,7 @@ A bench starts [`fresh`], as `crates/bench` and `crates.txt` say; run `./test` o
 ";
 
 fn tree() -> Tree {
-    let history = "-- stale : ℕ\nuse lib.Kept.{kept as held}\nabbrev pub fresh : History\nfresh = start stale\n\
+    let history = "-- stale : ℕ\nuse Rattle.bench.specs.Kept.{kept as held}\nabbrev pub fresh : History\nfresh = start stale\n\
                    pub longest-iff : ℕ\n";
     let code = "pub struct Bench { pub own: u8 }\npub enum Made { Log(u8) }\npub fn open() {}\n";
     Tree::of(&[
