@@ -16,7 +16,7 @@ use Rattle.bench.specs.ByRecord.{used_of}
 use Rattle.bench.specs.declared.Counted.{Counted}
 
 -- The agreement that the act reads, of the view before. View 0 has none before it, and snapshot two reads none: an empty one, in which
--- nobody is heard (crate calls, SupportCases: read-first, read_late).
+-- nobody is heard (crate calls, SupportCases: read_first, read_late).
 unfoldable pub agreement_before : Bench → ℕ → Agreement
 agreement_before b zero = empty_agreement 0
 agreement_before b (suc u) = agreement_of b u

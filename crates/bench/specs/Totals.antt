@@ -37,7 +37,7 @@ abbrev pub entries_in : Log → ℕ
 entries_in L = sum_of (counts_of L)
 
 -- Of entry e: the place of the block that holds it, and its place inside that block, both from 0. A block of count zero is passed over.
--- Where there is no such entry, 23 is given first. (TotalLaws: found-right, found_only)
+-- Where there is no such entry, 23 is given first. (TotalLaws: found_right, found_only)
 unfoldable pub block_holding : List ℕ → ℕ → ℕ
 block_holding [] e = 0
 block_holding (k ∷ ks) e = pick (ltb e k) 0 (suc (block_holding ks (e - k)))
