@@ -29,6 +29,12 @@ use Rattle.agreement.specs.Kept.{kept_log, Proposed, same_proposal, kept_proposa
 use Rattle.agreement.proofs.MaskLaws.{adding_same, adding_other, removing_other}
 use Rattle.agreement.proofs.FilingLaws.{fit, fit_not_unfit, few_blocks}
 
+-- two differed of whoever is in E
+pub kept_equivocator : (names counts : List ℕ) (base : ℕ) (g : Agreement) (i : ℕ) → is_equivocator g i ≡ true
+    → kept_log names counts base g i ≡ differing
+unfolding kept_log
+kept_equivocator names counts base g i e = rw e
+
 -- by what was found: two differed before; there is one, and this is the same, or another; there is none
 pub cases : (A : Type 0) (q v e : Bool) → (q ≡ true → A) → (q ≡ false → v ≡ true → e ≡ true → A) → (q ≡ false → v ≡ true → e ≡ false → A)
     → (q ≡ false → v ≡ false → A) → A

@@ -12,7 +12,8 @@ use Rattle.message.specs.Logs.{Log, same_log}
 use Rattle.message.specs.Message.{Content}
 use Rattle.message.proofs.TestLaws.{either}
 use Rattle.message.proofs.LogLaws.{same_log_iff}
-use Rattle.agreement.specs.Kept.{Kept, nothing, only, differing, keep, Proposed, same_proposal}
+use Rattle.agreement.specs.Filing.{first, known}
+use Rattle.agreement.specs.Kept.{Kept, nothing, only, differing, word_on, keep, Proposed, same_proposal}
 use Rattle.agreement.specs.Heard.{some_differs, kept_of, logs_from, heard_logs, ProposalHeard, proposals_from, heard_proposals}
 
 -- ---- one message more
@@ -78,6 +79,24 @@ module _ (heard : List Content) (m : Content) where
 
   pub heard_other : (v s : ℕ) → (v ≢ m.view) ⊎ (s ≢ m.sender) → heard_logs (m ∷ heard) v s ≡ heard_logs heard v s
   heard_other v s d = heard_apart v s (other m.view m.sender v s d)
+
+  -- the first of its sender and view, and the same again
+  pub heard_first : heard_logs heard m.view m.sender ≡ nothing → heard_logs (m ∷ heard) m.view m.sender ≡ only m.log
+  unfolding keep
+  heard_first e = heard_same ∙ ap (λ (k : Kept Log). keep same_log k m.log) e
+
+  pub heard_again : heard_logs heard m.view m.sender ≡ only m.log → heard_logs (m ∷ heard) m.view m.sender ≡ only m.log
+  unfolding keep
+  heard_again e = heard_same ∙ ap (λ (k : Kept Log). keep same_log k m.log) e ∙ rw ((same_log_iff m.log m.log).1 refl)
+
+-- and the answers to these
+pub word_first : (L : Log) → word_on same_log nothing L ≡ first
+unfolding word_on
+word_first L = refl
+
+pub word_again : (L : Log) → word_on same_log (only L) L ≡ known
+unfolding word_on
+word_again L = rw ((same_log_iff L L).1 refl)
 
 -- where no LOG is of this view and sender
 heard_none : (heard : List Content) (v s : ℕ) → ((m : Content) → Memᴰ m heard → (v ≢ m.view) ⊎ (s ≢ m.sender))

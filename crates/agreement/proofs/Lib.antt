@@ -21,6 +21,7 @@ pub mod EmptyLaws
 -- What the proofs of functions cite. Filing:
 pub mod FilingLaws
 pub mod FileCases
+pub mod VoteCases
 pub mod ProposalLaws
 pub mod ChoiceLaws
 -- Reading a grade:

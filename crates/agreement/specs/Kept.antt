@@ -1,13 +1,14 @@
 -- What is kept of one sender's messages of a kind in a view, and the answer to one more (document 01, "Receive"): one rule for LOGs and
 -- PROPOSALs, tied to the record by KeptLaws. Assumes nothing.
-use Rattle.std.specs.Prelude.{ℕ, ◌^◌, ◌<◌, Bool, true, false, ◌&&◌, List, ◌≡◌, eqb, length, get_or}
+use Rattle.std.specs.Prelude.{ℕ, ◌^◌, ◌<◌, Bool, true, false, not, ◌&&◌, List, ◌≡◌, eqb, length, get_or}
 use Rattle.std.proofs.Math.Option.{Option, some, none}
 use Rattle.message.specs.Choice.{pick}
 use Rattle.message.specs.Logs.{Log, same_log}
+use Rattle.message.specs.Message.{log_in}
 use Rattle.agreement.specs.Limits.{most_senders}
 use Rattle.agreement.specs.Sets.{member, is_yes}
 use Rattle.agreement.specs.Record.{Agreement, is_voter, is_equivocator, filed_log}
-use Rattle.agreement.specs.Filing.{Word, first, second, known}
+use Rattle.agreement.specs.Filing.{Word, first, second, known, unfit}
 use Rattle.agreement.specs.Proposals.{Proposals}
 use Rattle.agreement.specs.declared.Snapshot.{Snapshot}
 
@@ -41,12 +42,28 @@ single_of nothing = false
 single_of (only a) = true
 single_of differing = false
 
+-- that message
+abbrev pub only_of : {A : Type 0} → Kept A → Option A
+only_of nothing = none
+only_of (only a) = some a
+only_of differing = none
+
+-- x is that message
+abbrev pub is_only : {A : Type 0} → (A → A → Bool) → Kept A → A → Bool
+is_only same nothing x = false
+is_only same (only a) x = same x a
+is_only same differing x = false
+
 -- ---- as a record keeps it
 
 -- of sender i's LOGs
 unfoldable pub kept_log : List ℕ → List ℕ → ℕ → Agreement → ℕ → Kept Log
 kept_log names counts base g i =
     pick (is_equivocator g i) differing (pick (is_voter g i) (only (filed_log names counts base g.lengths i)) nothing)
+
+-- the log in s is the only one of sender i's LOGs; no, where nothing can be filed
+abbrev pub is_vote_in : Agreement → List ℕ → List ℕ → ℕ → List ℕ → ℕ → Bool
+is_vote_in g names counts base s i = not (unfit names counts base s i) && is_only same_log (kept_log names counts base g i) (log_in s)
 
 -- a proposal: its log and its priority
 pub record Proposed : Type 0 where

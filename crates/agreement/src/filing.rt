@@ -3,6 +3,7 @@ ghost use Rattle.std.specs.Prelude.{◌≡◌, ◌<◌};
 ghost use Rattle.agreement.specs.Limits.{most_senders};
 ghost use Rattle.agreement.specs.Record.{agreement_from, heard_once, heard_twice};
 ghost use Rattle.agreement.specs.Filing.{Fit, marked_by, LogStored, Files, file_of};
+ghost use Rattle.agreement.specs.Kept.{is_vote_in};
 
 use super::room::{is_filed, store_log, unfit};
 use super::sets::{has, with_sender, without_sender};
@@ -135,4 +136,30 @@ pub fn file(
         answer,
         marks: marked(g, answer, sender),
     }
+}
+
+// The log in the bytes is the one filed of this sender, which is in V. Where nothing can be filed, no.
+pub fn is_vote(
+    g: Marks,
+    lengths: &[u8; 32],
+    names: &[u64],
+    counts: &[u16],
+    base: u32,
+    bytes: &[u8],
+    sender: u8,
+) -> bool
+    ensures { result ≡ is_vote_in (agreement_from g lengths.now) names.now counts.now base
+        bytes.now sender }
+{
+    if unfit(names.len(), counts.len(), base, bytes, sender) {
+        return false;
+    }
+    let i = sender as usize;
+    if has(g.equivocators, i) {
+        return false;
+    }
+    if has(g.voters, i) {
+        return is_filed(names, counts, base, lengths[i], bytes, sender);
+    }
+    false
 }

@@ -51,6 +51,12 @@ unfolding first_failure
 failure_append [] ys = refl
 failure_append (c ∷ xs) ys = either c.test (λ t. rw t) (λ t. rw t (failure_append xs ys))
 
+-- where the rows in front pass, the others alone matter
+pub later_alike : (xs ys zs : List Cause) → (Passes xs → first_failure ys ≡ first_failure zs) → first_failure (xs ++ ys) ≡ first_failure (xs ++ zs)
+unfolding first_failure
+later_alike [] ys zs h = h tt
+later_alike (c ∷ xs) ys zs h = either c.test (λ t. rw t) (λ t. rw t (later_alike xs ys zs (λ p. h (t, p))))
+
 pub passes_both : (xs ys : List Cause) → Passes xs → Passes ys → Passes (xs ++ ys)
 passes_both [] ys p q = q
 passes_both (c ∷ xs) ys p q = (p.0, passes_both xs ys p.1 q)
