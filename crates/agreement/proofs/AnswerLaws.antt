@@ -4,6 +4,8 @@ use mathlib.Core.List.{List}
 use mathlib.Core.Option.{Option, some, none, some-ne-none}
 use mathlib.Core.Logic.{◌↔◌}
 use mathlib.Core.Path.{◌≡◌, refl, sym, ap, ◌∙◌}
+use Rattle.std.specs.Prelude as std
+use Rattle.std.specs.Prelude.{Some, None}
 use Rattle.message.specs.Store.{log_at}
 use Rattle.agreement.specs.Limits.{place_of}
 use Rattle.agreement.specs.Filing.{Word, first, second, known, word_of}
@@ -11,10 +13,7 @@ use Rattle.agreement.specs.Grades.{log_of}
 use Rattle.agreement.specs.Proposals.{chosen}
 use Rattle.agreement.specs.declared.Answer.{Answer}
 use Rattle.agreement.specs.declared.Answer.TheVariants.{First, Second, Known}
-use Rattle.agreement.specs.declared.Grade.{Grade}
-use Rattle.agreement.specs.declared.Grade.TheVariants.{Longest, Nothing}
-use Rattle.agreement.specs.declared.Choice.{Choice}
-use Rattle.agreement.specs.declared.Choice.TheVariants.{Proposal, Lock}
+use Rattle.agreement.specs.declared.Longest.{Longest}
 
 -- a word has one answer
 abbrev answer_of : Word → Answer
@@ -31,19 +30,19 @@ pub word_of_injective : (a b : Answer) → word_of a ≡ word_of b → a ≡ b
 word_of_injective a b e = sym (answer_back a) ∙ ap answer_of e ∙ answer_back b
 
 -- a sender, or none, has one choice
-abbrev choice_back : Option ℕ → Choice
-choice_back none = Lock
-choice_back (some i) = Proposal i
+abbrev choice_back : Option ℕ → std.Option ℕ
+choice_back none = None
+choice_back (some i) = Some i
 
-choice_back_lem : (c : Choice) → choice_back (chosen c) ≡ c
-choice_back_lem (Proposal i) = refl
-choice_back_lem Lock = refl
+choice_back_lem : (c : std.Option ℕ) → choice_back (chosen c) ≡ c
+choice_back_lem (Some i) = refl
+choice_back_lem None = refl
 
-pub chosen_injective : (c d : Choice) → chosen c ≡ chosen d → c ≡ d
+pub chosen_injective : (c d : std.Option ℕ) → chosen c ≡ chosen d → c ≡ d
 chosen_injective c d e = sym (choice_back_lem c) ∙ ap choice_back e ∙ choice_back_lem d
 
--- nothing is answered exactly where there is no log
-pub nothing_iff : (names counts : List ℕ) (base : ℕ) (r : Grade) → (log_of names counts base r ≡ none) ↔ (r ≡ Nothing)
-nothing_iff names counts base Nothing = (λ e. refl, λ e. refl)
-nothing_iff names counts base (Longest i k) =
-    (λ e. absurd (some-ne-none (log_at names counts (place_of base i) k) e), λ e. ap (log_of names counts base) e)
+-- none is answered exactly where there is no log
+pub nothing_iff : (names counts : List ℕ) (base : ℕ) (r : std.Option Longest) → (log_of names counts base r ≡ none) ↔ (r ≡ None)
+nothing_iff names counts base None = (λ e. refl, λ e. refl)
+nothing_iff names counts base (Some p) =
+    (λ e. absurd (some-ne-none (log_at names counts (place_of base p.sender) p.blocks) e), λ e. ap (log_of names counts base) e)

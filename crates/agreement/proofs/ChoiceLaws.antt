@@ -1,6 +1,7 @@
 -- The vote: what is chosen fits and has a place in the record, no sender that fits is better, and none is chosen exactly where none fits;
 -- and the walk along the senders. Assumes nothing.
-use Prim.Native.Nat.{ℕ, zero, suc, ◌+◌, ◌-◌, ◌/◌, ◌%◌, ◌^◌, ◌≤◌, ◌<◌}
+use Prim.Native.Nat.{ℕ, zero, suc, ◌+◌, ◌-◌, ◌≤◌, ◌<◌}
+use native.Mathlib.Decide.{dec_le}
 use native.Mathlib.Omega.{arith}
 use mathlib.Core.List.{List}
 use mathlib.Core.Bool.{Bool, true, false, not, ◌&&◌, and_assoc, false≢true}
@@ -8,35 +9,28 @@ use mathlib.Core.Option.{Option, some, none, some-ne-none, some-injective, none-
 use mathlib.Core.Logic.{inl, inr, ◌↔◌}
 use mathlib.Core.Path.{◌≡◌, refl, sym, ap, subst, ◌∙◌}
 use borrow.Author.Tests.{ltb-true, ltb-false}
-use lib.Dec.{eqb, ltb}
+use lib.Dec.{ltb}
 use lib.ListN.{get_or}
+use Rattle.std.specs.Prelude as std
+use Rattle.std.specs.Prelude.{Some, None}
 use Rattle.message.specs.Choice.{pick}
 use Rattle.message.specs.Store.{prefix_at}
 use Rattle.message.proofs.TestLaws.{either}
 use Rattle.agreement.specs.Limits.{most_senders, place_of}
 use Rattle.agreement.specs.Record.{lacks_room}
 use Rattle.agreement.specs.Sets.{member}
-use Rattle.agreement.specs.Steps.{SetOf, Walks, beats, Contest}
+use Rattle.agreement.specs.Steps.{SetOf, Taken, beats, Contest}
 use Rattle.agreement.specs.Proposals.{Proposals, proposals_from, fits, NotBelow, Best, better, if_fits, best_of, choice_of, chosen}
 use Rattle.agreement.specs.Proposals.{HasPlace, Chooses}
 use Rattle.agreement.specs.declared.Shown.{Shown}
-use Rattle.agreement.specs.declared.Choice.{Choice}
-use Rattle.agreement.specs.declared.Choice.TheVariants.{Proposal, Lock}
-use Rattle.agreement.proofs.CountLaws.{walk_start, walk_next, walk_on, walk_below, walk_room, walk_end}
+use Rattle.agreement.proofs.MaskLaws.{member_zero}
+use Rattle.agreement.proofs.MembersLaws.{other, rest_as, still_in}
 
 -- ---- the better of two, as the code finds it
 
 -- a sender that is the best so far has a place
-pub best_place : (best : Choice) (j : ℕ) → HasPlace best → best ≡ Proposal j → j < most_senders
+pub best_place : (best : std.Option ℕ) (j : ℕ) → HasPlace best → best ≡ Some j → j < most_senders
 best_place best j w e = rw e at w
-
-pub beats_one : (priorities : List ℕ) (best : Choice) (i j : ℕ) → best ≡ Proposal j
-    → ltb (get_or priorities j 0) (get_or priorities i 0) ≡ beats (λ (k : ℕ). get_or priorities k 0) (chosen best) i
-beats_one priorities best i j e = rw e refl
-
-module _ (p : ℕ → ℕ) (best : Choice) (i : ℕ) where
-  pub beats_none : best ≡ Lock → true ≡ beats p (chosen best) i
-  beats_none e = rw e refl
 
 wins : (p : ℕ → ℕ) (o : Option ℕ) (i : ℕ) → beats p o i ≡ true → better p o i ≡ some i
 wins p none i h = refl
@@ -47,12 +41,12 @@ loses p true none i h = absurd (false≢true (sym h))
 loses p true (some j) i h = rw h refl
 loses p false o i h = refl
 
-module _ (lengths priorities names counts : List ℕ) (base a k : ℕ) (best : Choice) (i : ℕ) (c : Contest best i) where
+module _ (lengths priorities names counts : List ℕ) (base a k : ℕ) (best : std.Option ℕ) (i : ℕ) (c : Contest best i) where
   abbrev prior : ℕ → ℕ
   prior j = get_or priorities j 0
 
   -- the best to i, where the lock is a prefix of its log or not
-  abbrev To : Choice → Type 0
+  abbrev To : std.Option ℕ → Type 0
   To z = Chooses (if_fits (prefix_at names counts a k (place_of base i) (get_or lengths i 0)) prior (chosen best) i) z
 
   pub best_loses : (r : Bool) → r ≡ beats prior (chosen best) i → r ≡ false → To best
@@ -67,7 +61,7 @@ module _ (lengths priorities names counts : List ℕ) (base a k : ℕ) (best : C
     found : prefix_at names counts a k (place_of base i) (get_or lengths i 0) ≡ x
     found = sym (e ∙ ap (prefix_at names counts a k (place_of base i)) s)
 
-    pub best_wins : (r : Bool) → r ≡ beats prior (chosen best) i → r ≡ true → x ≡ true → To (Proposal i)
+    pub best_wins : (r : Bool) → r ≡ beats prior (chosen best) i → r ≡ true → x ≡ true → To (Some i)
     best_wins r f b t = rw (found ∙ t) (record { sender = sym (wins prior (chosen best) i (sym f ∙ b)); place = c.few })
 
     pub best_unfit : x ≡ false → To best
@@ -93,13 +87,15 @@ best_same (suc n) p p' q h =
     let r = best_same n p p' q (λ i l. h i (omega arith)) in
     λ i. if_fits (e i) q (r i) n
 
--- ---- the walk along the senders of a set: those whose proposals are filed and not set aside
+-- ---- the senders of a set one after another: those whose proposals are filed and not set aside
 
--- of the senders below i, the best is found; `left` tells of the others
-pub record Choosing (lengths priorities names counts : List ℕ) (base a k set i left : ℕ) (best : Choice) : Type 0 where
-  pub walk : Walks set i left
-  pub room : i ≤ most_senders
-  pub choice : Chooses (best_of i (λ (j : ℕ). member set j && prefix_at names counts a k (place_of base j) (get_or lengths j 0))
+-- Of the senders of the set below `from`, the best is found; those from there on are left.
+pub record Choosing (lengths priorities names counts : List ℕ) (base a k set left : ℕ) (best : std.Option ℕ) : Type 0 where
+  pub from : ℕ
+  pub room : from ≤ most_senders
+  pub later : (j : ℕ) → from ≤ j → member left j ≡ member set j
+  pub past : (j : ℕ) → j < from → member left j ≡ false
+  pub choice : Chooses (best_of from (λ (j : ℕ). member set j && prefix_at names counts a k (place_of base j) (get_or lengths j 0))
       (λ (j : ℕ). get_or priorities j 0)) best
 
 module _ (lengths priorities names counts : List ℕ) (base a k set : ℕ) where
@@ -113,57 +109,74 @@ module _ (lengths priorities names counts : List ℕ) (base a k set : ℕ) where
   abbrev may : ℕ → Bool
   may j = member set j && has-lock j
 
-  abbrev Best-to : ℕ → Choice → Type 0
-  Best-to i best = Chooses (best_of i may q) best
-
-  pub best_start : set < 2 ^ most_senders → Choosing lengths priorities names counts base a k set 0 set Lock
+  pub best_start : (left : ℕ) → left ≡ set → Choosing lengths priorities names counts base a k set left None
   unfolding best_of
-  best_start h = record { walk = walk_start set h; room = omega arith; choice = record { sender = refl; place = tt } }
+  best_start left same = rw same (record {
+    from = 0;
+    room = omega arith;
+    later = λ j l. refl;
+    past = λ j l. absurd (omega arith);
+    choice = record { sender = refl; place = tt };
+  })
 
-  one_more : (i : ℕ) (best z : Choice) → Best-to i best → Chooses (if_fits (may i) q (chosen best) i) z → Best-to (i + 1) z
-  unfolding best_of
-  one_more i best z h w =
-      let e : i + 1 ≡ suc i = omega arith in
-      record {
-        sender = w.sender ∙ ap (λ (o : Option ℕ). if_fits (may i) q o i) h.sender ∙ sym (ap (λ (n : ℕ). best_of n may q) e);
-        place = w.place;
+  module _ (best : std.Option ℕ) (left : ℕ) (h : Choosing lengths priorities names counts base a k set left best) where
+    module _ (i rest : ℕ) (t : Taken left i rest) where
+      -- nobody is left below `from`
+      above : h.from ≤ i
+      above = elim (dec_le h.from i) [
+        | yes l ↦ l
+        | no l ↦ absurd (false≢true (sym (h.past i (omega arith)) ∙ t.0.inside))
+      ]
+
+      -- nobody of the set is between the best so far and i
+      same_best : best_of i may q ≡ best_of h.from may q
+      same_best =
+          let l = above in
+          let u : h.from + (i - h.from) ≡ i = omega arith in
+          ap (λ (n : ℕ). best_of n may q) (sym u)
+          ∙ best_cut h.from (i - h.from) may q (λ j x y.
+          ap (λ (b : Bool). b && has-lock j) (sym (h.later j x) ∙ t.0.least j (omega arith)))
+
+      mine : may i ≡ has-lock i
+      mine = ap (λ (b : Bool). b && has-lock i) (sym (h.later i above) ∙ t.0.inside)
+
+      pub best_next : (z : std.Option ℕ) → Chooses (if_fits (has-lock i) q (chosen best) i) z
+          → Choosing lengths priorities names counts base a k set rest z
+      unfolding best_of
+      best_next z d = record {
+        from = suc i;
+        room = t.0.few;
+        later = λ j l. let m = above in rest_as left i rest t j (λ same. omega arith) ∙ h.later j (omega arith);
+        past = λ j l. either (member rest j)
+            (λ e. absurd (false≢true (
+            sym (t.0.least j (let d = other left i rest t j e in omega arith)) ∙ still_in left i rest t j e)))
+            (λ e. e);
+        choice = record {
+          sender = d.sender ∙ ap (λ (b : Bool). if_fits b q (chosen best) i) (sym mine)
+              ∙ ap (λ (o : Option ℕ). if_fits (may i) q o i) (h.choice.sender ∙ sym same_best);
+          place = d.place;
+        };
       }
 
-  module _ (best : Choice) (i left : ℕ) (h : Choosing lengths priorities names counts base a k set i left best) where
-    turn : 0 < left → (z : Choice) → Best-to (i + 1) z → Choosing lengths priorities names counts base a k set (i + 1) (left / 2) z
-    turn p z b = record { walk = walk_next set i left h.walk; room = walk_room set i left h.walk p; choice = b }
-
-    pub best_skip : 0 < left → eqb (left % 2) 1 ≡ false → Choosing lengths priorities names counts base a k set (i + 1) (left / 2) best
-    best_skip p e =
-        let no : may i ≡ false = ap (λ (t : Bool). t && has-lock i) (sym (walk_on set i left h.walk) ∙ e) in
-        turn p best
-        (one_more i best best h.choice
-        (subst (λ (t : Bool). Chooses (if_fits t q (chosen best) i) best) (sym no) (record { sender = refl; place = h.choice.place })))
-
-    pub best_next : 0 < left → eqb (left % 2) 1 ≡ true → (z : Choice) → Chooses (if_fits (has-lock i) q (chosen best) i) z
-        → Choosing lengths priorities names counts base a k set (i + 1) (left / 2) z
-    best_next p e z d =
-        let yes : may i ≡ has-lock i = ap (λ (t : Bool). t && has-lock i) (sym (walk_on set i left h.walk) ∙ e) in
-        turn p z (one_more i best z h.choice (subst (λ (t : Bool). Chooses (if_fits t q (chosen best) i) z) (sym yes) d))
-
-    pub best_asks : 0 < left → Contest best i
-    best_asks p = record { place = h.choice.place; few = walk_below set i left h.walk p }
+      pub best_asks : Contest best i
+      best_asks = record { place = h.choice.place; few = t.0.few }
 
     pub best_end : (m : Shown) (r : Bool) → SetOf (λ (j : ℕ). member m.filed j && not (member m.aside j)) most_senders set
-        → r ≡ lacks_room names counts base → r ≡ false → left ≤ 0
+        → r ≡ lacks_room names counts base → r ≡ false → left ≡ 0
         → Chooses (choice_of names counts base (proposals_from m lengths priorities) a k) best
     unfolding choice_of
     best_end m r s e t n =
         let l = h.room in
-        let u : i + (most_senders - i) ≡ most_senders = omega arith in
-        let cut = best_cut i (most_senders - i) may q (λ j x y. ap (λ (v : Bool). v && has-lock j) (walk_end set i left h.walk n j x)) in
+        let u : h.from + (most_senders - h.from) ≡ most_senders = omega arith in
+        let cut = best_cut h.from (most_senders - h.from) may q (λ j x y. ap (λ (v : Bool). v && has-lock j)
+        (sym (h.later j x) ∙ ap (λ (z : ℕ). member z j) n ∙ member_zero j)) in
         let same = best_same most_senders may (fits names counts base (proposals_from m lengths priorities) a k) q (λ j x.
         ap (λ (v : Bool). v && has-lock j) (s.at j x) ∙ and_assoc (member m.filed j) (not (member m.aside j)) (has-lock j)) in
         rw (← e, t) (record { sender = h.choice.sender ∙ sym cut ∙ ap (λ (x : ℕ). best_of x may q) u ∙ same; place = h.choice.place })
 
 module _ (m : Shown) (lengths priorities names counts : List ℕ) (base a k : ℕ) where
   pub choice_lacks : (r : Bool) → r ≡ lacks_room names counts base → r ≡ true
-      → Chooses (choice_of names counts base (proposals_from m lengths priorities) a k) Lock
+      → Chooses (choice_of names counts base (proposals_from m lengths priorities) a k) None
   unfolding choice_of
   choice_lacks r e t = rw (← e, t) (record { sender = refl; place = tt })
 

@@ -8,6 +8,7 @@ use mathlib.Core.Logic.{inl, inr}
 use mathlib.Core.Path.{◌≡◌, refl, sym, ap, subst, ◌∙◌}
 use lib.Dec.{leb, ltb}
 use lib.ListN.{length, get_or}
+use Rattle.std.specs.Prelude.{Some}
 use Rattle.message.specs.Limits.{most_blocks}
 use Rattle.message.specs.Logs.{Block, Log, Prefix, empty, same_block, is_prefix}
 use Rattle.message.specs.Store.{log_at}
@@ -17,8 +18,8 @@ use Rattle.agreement.specs.Limits.{most_senders, place_of}
 use Rattle.agreement.specs.Sets.{ones, count, member}
 use Rattle.agreement.specs.Record.{filed_log}
 use Rattle.agreement.specs.Steps.{SetOf, backing, Majority, next_block, narrowed, chunk_length, alike, narrowed_by, Far, have_block}
-use Rattle.agreement.specs.Steps.{MajorityAt, Extending, Following, Extended}
-use Rattle.agreement.specs.declared.Grade.TheVariants.{Longest}
+use Rattle.agreement.specs.Steps.{MajorityAt, Readable, Extending, Following, Extended}
+use Rattle.agreement.specs.declared.Longest.{Longest}
 use Rattle.agreement.proofs.SetLaws.{Meet, weigh_mono, weigh_meet, weigh_some, weigh_cong}
 use Rattle.agreement.proofs.NarrowLaws.{prefix_chunk}
 
@@ -53,7 +54,7 @@ module _ (names counts : List ℕ) (base : ℕ) (lengths : List ℕ) (may : ℕ)
   pub back_empty : (j : ℕ) → j < most_senders → back [] j ≡ member may j
   back_empty j l = ap (λ (t : Bool). member may j && t) ((is_prefix_iff [] (log j)).1 empty) ∙ and-true (member may j)
 
-  pub follow_all : Extending names counts base lengths may all → Following names counts base lengths may all 0 0 may
+  pub follow_all : Extending may all → Following names counts base lengths may all 0 0 may
   follow_all k = record {
     at = λ j l. sym (ap (λ (L : Log). back L j) (log_empty names counts (place_of base 0) 0 (omega arith)) ∙ back_empty j l);
     enough = k.enough;
@@ -118,24 +119,25 @@ module _ (names counts : List ℕ) (base : ℕ) (lengths : List ℕ) (may : ℕ)
     majority : Majority names counts base lengths may all (at who l)
     majority = let e = weigh_cong most_senders ones (member followers) (back (at who l)) f.at in let h = f.enough in omega arith
 
-    module _ (k : Extending names counts base lengths may all) where
+    module _ (k : Extending may all) (ok : Readable names counts base lengths) where
       -- a log with a majority has a supporter, and so 64 blocks at the most
       supporter : (M : Log) → Majority names counts base lengths may all M → Meet most_senders (back M) (back M)
       supporter M h = weigh_some most_senders ones (back M) (omega arith)
 
-      pub top_full : most_blocks ≤ l → l ≤ most_blocks → who < most_senders → Extended names counts base lengths may all (Longest who l)
-      top_full a b w = record {
-        top = record {
+      pub top_full : most_blocks ≤ l → l ≤ most_blocks → who < most_senders → (p : Longest) → (p.sender ≡ who) × (p.blocks ≡ l)
+          → Extended names counts base lengths may all (Some p)
+      top_full a b w p e = record {
+        top = rw (e.0, e.1) (record {
           place = w;
           few = b;
           majority = majority;
           longest = λ M h.
               let m = supporter M h in
-              let p = prefix_length (backs M m.sender m.left).1 in
+              let u = prefix_length (backs M m.sender m.left).1 in
               let e = length_at_lem names counts (place_of base m.sender) (get_or lengths m.sender 0) in
-              let s = k.readable.short m.sender m.below in
+              let s = ok.short m.sender m.below in
               omega arith;
-        };
+        });
       }
 
       -- two logs with a majority have a supporter in common: the longer one starts with the other
@@ -195,9 +197,10 @@ module _ (names counts : List ℕ) (base : ℕ) (lengths : List ℕ) (may : ℕ)
       pub top_majority : (c : ℕ) (narrow : ℕ) (n : ℕ) → MajorityAt names counts base followers l who c
           → SetOf (narrowed names counts base lengths followers l (next l c)) most_senders narrow → n ≡ count most_senders (member narrow)
           → 2 * n ≤ all
-          → l ≤ most_blocks → who < most_senders → Extended names counts base lengths may all (Longest who l)
-      top_majority c narrow n v t q z b w = record {
-        top = record {
+          → l ≤ most_blocks → who < most_senders → (p : Longest) → (p.sender ≡ who) × (p.blocks ≡ l)
+          → Extended names counts base lengths may all (Some p)
+      top_majority c narrow n v t q z b w p e = record {
+        top = rw (e.0, e.1) (record {
           place = w;
           few = b;
           majority = majority;
@@ -205,5 +208,5 @@ module _ (names counts : List ℕ) (base : ℕ) (lengths : List ℕ) (may : ℕ)
             | yes a ↦ a
             | no a ↦ let d = counted M h (omega arith) c v narrow t in absurd (omega arith)
           ];
-        };
+        });
       }

@@ -1,9 +1,9 @@
 -- Filing a LOG, case by case: what was found, and so what is answered and left. Assumes nothing.
-use Prim.Native.Nat.{ℕ, ◌≤◌, ◌<◌}
+use Prim.Native.Nat.{ℕ, ◌<◌}
 use mathlib.Core.List.{List}
 use mathlib.Core.Bool.{Bool, true, false}
 use mathlib.Core.Path.{◌≡◌, refl, sym, ap, ◌∙◌}
-use borrow.Author.Tests.{le-leb, lt-leb}
+use borrow.Author.Tests.{lt-leb}
 use lib.ListN.{set}
 use Rattle.message.specs.Numbers.{put}
 use Rattle.message.specs.Logs.{same_log, names_of, counts_of}
@@ -23,7 +23,7 @@ module _ (m : Marks) (lengths names counts : List ℕ) (base : ℕ) (s : List �
   g = agreement_from m lengths
 
   abbrev Still : Type 0
-  Still = Files (file_of g names counts base s i) (record { answer = Known; marks = m }) lengths names counts
+  Still = Files (file_of g names counts base s i) (record { answer = Known; after = m }) lengths names counts
 
   file-unfit : (r : Bool) → r ≡ unfit names counts base s i → r ≡ true → Still
   unfolding file_of
@@ -44,7 +44,7 @@ module _ (m : Marks) (lengths names counts : List ℕ) (base : ℕ) (s : List �
             (record { answered = refl; marks = refl; length_list = refl; name_list = refl; count_list = refl })
 
         file_other : (h : Marks) → r ≡ false → h ≡ heard_twice m i
-            → Files (file_of g names counts base s i) (record { answer = Second; marks = h }) lengths names counts
+            → Files (file_of g names counts base s i) (record { answer = Second; after = h }) lengths names counts
         unfolding file_of
         file_other h t w = rw (fit_not_unfit names counts base s i f, ← p, q, ← u, v, ← e, t)
             (record { answered = refl; marks = w; length_list = refl; name_list = refl; count_list = refl })
@@ -52,7 +52,7 @@ module _ (m : Marks) (lengths names counts : List ℕ) (base : ℕ) (s : List �
       file_new : (h : Marks) (ls ns cs : List ℕ) → y ≡ false
           → (ns ≡ put names (place_of base i) (names_of (log_in s))) × (cs ≡ put counts (place_of base i) (counts_of (log_in s)))
           → ls ≡ set lengths i (count_in s) → h ≡ heard_once m i
-          → Files (file_of g names counts base s i) (record { answer = First; marks = h }) ls ns cs
+          → Files (file_of g names counts base s i) (record { answer = First; after = h }) ls ns cs
       unfolding file_of
       file_new h ls ns cs v (a, b) l w =
           rw (fit_not_unfit names counts base s i f, ← p, q, ← u, v)
@@ -61,22 +61,11 @@ module _ (m : Marks) (lengths names counts : List ℕ) (base : ℕ) (s : List �
 -- ---- the marks by the answer
 
 module _ (m : Marks) (a : Answer) (i : ℕ) where
-  pub marked_nobody : most_senders ≤ i → m ≡ marked_by m a i
-  marked_nobody h = nobody a
-    where
-      nobody : (b : Answer) → m ≡ marked_by m b i
-      nobody First = rw (le-leb most_senders i h)
-      nobody Second = rw (le-leb most_senders i h)
-      nobody Known = refl
-
   pub marked_once : (h : Marks) → i < most_senders → a ≡ First → h ≡ heard_once m i → h ≡ marked_by m a i
   marked_once h l e w = w ∙ rw (e, lt-leb most_senders i l)
 
   pub marked_twice : (h : Marks) → i < most_senders → a ≡ Second → h ≡ heard_twice m i → h ≡ marked_by m a i
   marked_twice h l e w = w ∙ rw (e, lt-leb most_senders i l)
-
-  pub marked_still : a ≡ Known → m ≡ marked_by m a i
-  marked_still e = rw e
 
 -- ---- the same by the two sets alone
 
@@ -122,7 +111,7 @@ module _ (voters equivocators : ℕ) (lengths names counts : List ℕ) (base : �
 -- marks and lists together
 pub filed_by : (m h : Marks) (lengths names counts : List ℕ) (base : ℕ) (s : List ℕ) (i : ℕ) (a : Answer) (ls ns cs : List ℕ)
     → LogStored m.voters m.equivocators lengths names counts base s i a ls ns cs → h ≡ marked_by m a i
-    → Files (file_of (agreement_from m lengths) names counts base s i) (record { answer = a; marks = h }) ls ns cs
+    → Files (file_of (agreement_from m lengths) names counts base s i) (record { answer = a; after = h }) ls ns cs
 filed_by m h lengths names counts base s i a ls ns cs d e =
     let x = d.whole m refl refl in
     record { answered = x.answered; marks = e ∙ x.marks; length_list = x.length_list; name_list = x.name_list; count_list = x.count_list }

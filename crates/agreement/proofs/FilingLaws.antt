@@ -22,11 +22,6 @@ use Rattle.agreement.specs.Limits.{most_senders, span, place_of}
 use Rattle.agreement.specs.Record.{lacks_room}
 use Rattle.agreement.specs.Filing.{unfit, Fit}
 
--- the code's test, from what it found
-pub unfit_is : (m n base : ℕ) (s : List ℕ) (i : ℕ) (l h : Bool) → l ≡ (ltb m (base + span) || ltb n (base + span)) → h ≡ holds_log s
-    → (leb most_senders i || (l || not h)) ≡ (leb most_senders i || ((ltb m (base + span) || ltb n (base + span)) || not (holds_log s)))
-unfit_is m n base s i l h e f = rw (e, f)
-
 -- with room from `base` on, a log of at most 64 blocks at a sender's place is within the lists
 pub within_room : (names counts : List ℕ) (base i k : ℕ) → base + span ≤ length names → base + span ≤ length counts → i < most_senders
     → k ≤ most_blocks

@@ -2,6 +2,7 @@
 -- Sets of senders, grades with their four properties, and the longest log with a grade; worked examples:
 pub mod SetLaws
 pub mod MaskLaws
+pub mod MembersLaws
 pub mod LimitLaws
 pub mod ReadingLaws
 pub mod LongestLaws

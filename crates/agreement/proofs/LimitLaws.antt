@@ -1,17 +1,15 @@
 -- The tests of whole sets at once: what each says of the senders. Assumes nothing.
-use Prim.Native.Nat.{ℕ, ◌+◌, ◌-◌, ◌^◌, ◌≤◌, ◌<◌}
+use Prim.Native.Nat.{ℕ, ◌+◌, ◌-◌, ◌^◌, ◌≤◌, ◌<◌, max}
+use native.Mathlib.Decide.{dec_le}
 use native.Mathlib.Omega.{arith}
-use mathlib.Core.Bool.{Bool, true, false, not, ◌&&◌, ◌||◌, false≢true}
-use mathlib.Core.List.{List}
-use mathlib.Core.Path.{◌≡◌, sym, ap, subst, ◌∙◌}
-use borrow.Author.Tests.{ltb-true, ltb-false, leb-true, leb-false, lt-leb, le-leb, eqb-true, eq-eqb}
+use mathlib.Core.Bool.{Bool, true, false, not, ◌&&◌, ◌||◌, false≢true, or_assoc}
+use mathlib.Core.Path.{◌≡◌, refl, sym, ap, subst, ◌∙◌}
+use borrow.Author.Tests.{ltb-true, ltb-false, lt-ltb, le-ltb, leb-true, leb-false, lt-leb, le-leb, eqb-true, eq-eqb}
 use lib.Dec.{eqb, leb, ltb}
-use lib.ListN.{get_or}
 use Rattle.message.proofs.TestLaws.{either, or_false, or_true}
 use Rattle.agreement.specs.Limits.{most_senders}
 use Rattle.agreement.specs.Sets.{ones, count, member}
-use Rattle.agreement.specs.Steps.{SetOf}
-use Rattle.agreement.proofs.CountLaws.{some_all, any_over}
+use Rattle.agreement.specs.Steps.{SetOf, Passes}
 use Rattle.agreement.proofs.SetLaws.{weigh_none, weigh_some}
 use Rattle.agreement.proofs.MaskLaws.{member_past, member_zero, below_digits}
 
@@ -89,12 +87,50 @@ module _ (set n : ℕ) where
       (λ v. ap (λ (w : Bool). w && member set i) v ∙ member_past set n i (omega arith) (leb-true n i v))
       (λ v. ap (λ (w : Bool). w && member set i) v))))
 
+-- ---- whether some sender passes, by what a test says of each
+
+module _ (says : ℕ → Bool → Type 0) where
+  pub passes_none : Passes says 0 false
+  passes_none = record { some = λ e. absurd (false≢true e); none = λ e i l. absurd (omega arith) }
+
+  pub passes_next : (n : ℕ) (r x : Bool) → Passes says n r → says n x → Passes says (n + 1) (r || x)
+  passes_next n true x h y = record {
+    some = λ e. let m = h.some refl in (m.0, omega arith, m.2);
+    none = λ e. absurd (false≢true (sym e));
+  }
+  passes_next n false true h y = record { some = λ e. (n, omega arith, y); none = λ e. absurd (false≢true (sym e)) }
+  passes_next n false false h y = record {
+    some = λ e. absurd (false≢true e);
+    none = λ e i l. elim (dec_le n i) [
+      | yes k ↦ let s : i ≡ n = omega arith in subst (λ (j : ℕ). says j false) (sym s) y
+      | no k ↦ h.none refl i (omega arith)
+    ];
+  }
+
+  -- where the test has one answer for each sender
+  pub passes_is : (r : Bool) (p : ℕ → Bool) → Passes says most_senders r → ((i : ℕ) (b : Bool) → i < most_senders → says i b → b ≡ p i)
+      → r ≡ ltb 0 (count most_senders p)
+  passes_is true p h f = let m = h.some refl in sym (some_yes p m.0 m.1 (sym (f m.0 true m.1 m.2)))
+  passes_is false p h f = sym (some_no p (λ i l. sym (f i false l (h.none refl i l))))
+
+-- the larger of two numbers is over l where one of them is
+over_max : (l a b : ℕ) → ltb l (max a b) ≡ (ltb l a || ltb l b)
+over_max l a b =
+    either (ltb l a)
+    (λ e. let h = ltb-true l a e in rw e (lt-ltb l (max a b) (omega arith)))
+    (λ e.
+    let h = ltb-false l a e in
+    rw e (either (ltb l b)
+    (λ f. let k = ltb-true l b f in rw f (lt-ltb l (max a b) (omega arith)))
+    (λ f. let k = ltb-false l b f in rw f (le-ltb l (max a b) (omega arith)))))
+
+pub over_largest : (l x y z : ℕ) (r : Bool) → r ≡ ltb l (max (max x y) z) → r ≡ (ltb l x || (ltb l y || ltb l z))
+over_largest l x y z r e =
+    e ∙ over_max l (max x y) z ∙ ap (λ (t : Bool). t || ltb l z) (over_max l x y) ∙ or_assoc (ltb l x) (ltb l y) (ltb l z)
+
 -- three rows, asked together
-pub rows_over : (a b c : List ℕ) (l : ℕ) (r : Bool) (i : ℕ) → r ≡ ltb 0 (count i (any_over a b c l)) → i ≤ most_senders → most_senders ≤ i
-    → r ≡ (ltb 0 (count most_senders (λ (j : ℕ). ltb l (get_or a j 0)))
-    || (ltb 0 (count most_senders (λ (j : ℕ). ltb l (get_or b j 0))) || ltb 0 (count most_senders (λ (j : ℕ). ltb l (get_or c j 0)))))
-rows_over a b c l r i e h g =
-    some_all (any_over a b c l) r i e h g
-    ∙ some_or (λ (j : ℕ). ltb l (get_or a j 0)) (λ (j : ℕ). ltb l (get_or b j 0) || ltb l (get_or c j 0))
-    ∙ ap (λ (t : Bool). ltb 0 (count most_senders (λ (j : ℕ). ltb l (get_or a j 0))) || t)
-    (some_or (λ (j : ℕ). ltb l (get_or b j 0)) (λ (j : ℕ). ltb l (get_or c j 0)))
+pub some_of_three : (p q s : ℕ → Bool)
+    → ltb 0 (count most_senders (λ (i : ℕ). p i || (q i || s i)))
+    ≡ (ltb 0 (count most_senders p) || (ltb 0 (count most_senders q) || ltb 0 (count most_senders s)))
+some_of_three p q s =
+    some_or p (λ (j : ℕ). q j || s j) ∙ ap (λ (t : Bool). ltb 0 (count most_senders p) || t) (some_or q s)

@@ -1,104 +1,105 @@
 -- The majority vote, turn by turn: a block that more than half of the followers have is the winner's. Assumes nothing.
-use Prim.Native.Nat.{ℕ, suc, ◌+◌, ◌-◌, ◌*◌, ◌%◌, ◌≤◌, ◌<◌}
+use Prim.Native.Nat.{ℕ, zero, suc, ◌+◌, ◌-◌, ◌*◌, ◌≤◌, ◌<◌}
 use native.Mathlib.Omega.{arith}
-use mathlib.Core.Bool.{Bool, true, false, ◌&&◌, not, false≢true}
+use mathlib.Core.Bool.{Bool, true, false, not, false≢true}
 use mathlib.Core.List.{List}
 use mathlib.Core.Logic.{inl, inr}
 use mathlib.Core.Path.{◌≡◌, refl, sym, ap, ◌∙◌}
-use lib.Dec.{eqb}
 use Rattle.message.specs.Logs.{Block, same_block}
 use Rattle.message.proofs.TestLaws.{either}
 use Rattle.message.proofs.LogLaws.{same_block_eq, same_block_refl}
 use Rattle.agreement.specs.Limits.{most_senders}
 use Rattle.agreement.specs.Sets.{share, weigh, count, member}
-use Rattle.agreement.specs.Steps.{Walks, next_block, have_block, Leads, MajorityAt}
-use Rattle.agreement.proofs.CountLaws.{count_cut, walk_on, walk_end}
+use Rattle.agreement.specs.Steps.{Taken, next_block, have_block, Leads, MajorityAt}
+use Rattle.agreement.proofs.MembersLaws.{count_taken, one_fewer, still_in, count_no_one}
 
--- ---- one turn in numbers: n of m followers have a block, a says that it is the candidate's, b that it is the next follower's
+-- ---- One turn in numbers: n of m followers have a block, and u of the v that are left after this turn. a says that the block is the
+-- candidate's, b that it is the one of the follower whose turn it is.
 
-new_turn : (a b : Bool) (n m w : ℕ) → w ≤ 0 → 2 * n + share (not a) w ≤ m + share a w
-    → 2 * (share b 1 + n) + share (not b) 1 ≤ (1 + m) + share b 1
-new_turn true true n m w z h = omega arith
-new_turn true false n m w z h = omega arith
-new_turn false true n m w z h = omega arith
-new_turn false false n m w z h = omega arith
+new_turn : (a b : Bool) (n m u v w : ℕ) → w ≡ 0 → 2 * n + (1 + v) + share (not a) w ≤ 2 * (share b 1 + u) + m + share a w
+    → 2 * n + v + share (not b) 1 ≤ 2 * u + m + share b 1
+new_turn true true n m u v w z h = omega arith
+new_turn true false n m u v w z h = omega arith
+new_turn false true n m u v w z h = omega arith
+new_turn false false n m u v w z h = omega arith
 
-same_turn : (a b : Bool) (n m w : ℕ) → b ≡ a → 2 * n + share (not a) w ≤ m + share a w
-    → 2 * (share b 1 + n) + share (not a) (w + 1) ≤ (1 + m) + share a (w + 1)
-same_turn true true n m w e h = omega arith
-same_turn true false n m w e h = absurd (false≢true e)
-same_turn false true n m w e h = absurd (false≢true (sym e))
-same_turn false false n m w e h = omega arith
+same_turn : (a b : Bool) (n m u v w : ℕ) → b ≡ a → 2 * n + (1 + v) + share (not a) w ≤ 2 * (share b 1 + u) + m + share a w
+    → 2 * n + v + share (not a) (w + 1) ≤ 2 * u + m + share a (w + 1)
+same_turn true true n m u v w e h = omega arith
+same_turn true false n m u v w e h = absurd (false≢true e)
+same_turn false true n m u v w e h = absurd (false≢true (sym e))
+same_turn false false n m u v w e h = omega arith
 
-other_turn : (a b : Bool) (n m w : ℕ) → (a ≡ true → b ≡ false) → 0 < w → 2 * n + share (not a) w ≤ m + share a w
-    → 2 * (share b 1 + n) + share (not a) (w - 1) ≤ (1 + m) + share a (w - 1)
-other_turn true true n m w e z h = absurd (false≢true (sym (e refl)))
-other_turn true false n m w e z h = omega arith
-other_turn false true n m w e z h = omega arith
-other_turn false false n m w e z h = omega arith
+other_turn : (a b : Bool) (n m u v w : ℕ) → (a ≡ true → b ≡ false) → (w ≡ 0 → ⊥)
+    → 2 * n + (1 + v) + share (not a) w ≤ 2 * (share b 1 + u) + m + share a w
+    → 2 * n + v + share (not a) (w - 1) ≤ 2 * u + m + share a (w - 1)
+other_turn true true n m u v w e z h = absurd (false≢true (sym (e refl)))
+other_turn true false n m u v w e z h = omega arith
+other_turn false true n m u v w e z h = omega arith
+other_turn false false n m u v w e z h = omega arith
 
-count-step : (p : ℕ → Bool) (j : ℕ) → count (j + 1) p ≡ share (p j) 1 + count j p
+count_le : (n : ℕ) (p : ℕ → Bool) → count n p ≤ n
 unfolding weigh
-count-step p j = let s : j + 1 ≡ suc j = omega arith in ap (λ (k : ℕ). count k p) s
+count_le zero p = omega arith
+count_le (suc n) p = let h = count_le n p in either (p n) (λ e. rw e (omega arith)) (λ e. rw e (omega arith))
 
 module _ (names counts : List ℕ) (base : ℕ) (followers : ℕ) (l who : ℕ) where
   abbrev block : ℕ → Block
   block = next_block names counts base l
 
-  -- how many have block x
-  abbrev having : Block → ℕ → ℕ
-  having x j = count j (have_block names counts base followers l x)
+  -- how many of these followers have block x
+  abbrev having : ℕ → Block → ℕ
+  having left x = count most_senders (have_block names counts base left l x)
 
-  pub lead_none : Leads names counts base followers l who 0 who 0
-  unfolding weigh
-  lead_none = record { most = λ x. either (same_block x (block who)) (λ e. rw e (omega arith)) (λ e. rw e (omega arith)); from = inl refl }
+  pub lead_none : (left : ℕ) → left ≡ followers → who < most_senders → Leads names counts base followers l who left who 0
+  lead_none left same k = rw same (record {
+    most = λ x. either (same_block x (block who)) (λ e. rw e (omega arith)) (λ e. rw e (omega arith));
+    place = k;
+    from = inl refl;
+    inside = λ j e. e;
+    room = let c = count_le most_senders (member followers) in omega arith;
+  })
 
-  module _ (j best weight : ℕ) (h : Leads names counts base followers l who j best weight) (left : ℕ) (walk : Walks followers j left) where
-    pub lead_skip : eqb (left % 2) 1 ≡ false → Leads names counts base followers l who (j + 1) best weight
-    lead_skip off = record {
-      most = λ x.
-          let f = sym (walk_on followers j left walk) ∙ off in
-          let p = count-step (have_block names counts base followers l x) j
-          ∙ ap (λ (t : Bool). share (t && same_block x (block j)) 1 + having x j) f in
-          let q = count-step (member followers) j ∙ ap (λ (t : Bool). share t 1 + count j (member followers)) f in
-          let m = h.most x in
-          omega arith;
-      from = h.from;
-    }
+  module _ (left best weight : ℕ) (h : Leads names counts base followers l who left best weight) where
+    module _ (j rest : ℕ) (t : Taken left j rest) where
+      holds : (x : Block) → having left x ≡ share (same_block x (block j)) 1 + having rest x
+      holds x = count_taken left j rest t (λ (i : ℕ). same_block x (block i))
 
-    module _ (on : eqb (left % 2) 1 ≡ true) where
-      f : member followers j ≡ true
-      f = sym (walk_on followers j left walk) ∙ on
+      follows : count most_senders (member left) ≡ 1 + count most_senders (member rest)
+      follows = one_fewer left j rest t
 
-      holds : (x : Block) → having x (j + 1) ≡ share (same_block x (block j)) 1 + having x j
-      holds x = count-step (have_block names counts base followers l x) j
-          ∙ ap (λ (t : Bool). share (t && same_block x (block j)) 1 + having x j) f
+      within : (i : ℕ) → member rest i ≡ true → member followers i ≡ true
+      within i e = h.inside i (still_in left j rest t i e)
 
-      follows : count (j + 1) (member followers) ≡ 1 + count j (member followers)
-      follows = count-step (member followers) j ∙ ap (λ (t : Bool). share t 1 + count j (member followers)) f
-
-      pub lead_new : weight ≤ 0 → Leads names counts base followers l who (j + 1) j 1
+      pub lead_new : weight ≡ 0 → Leads names counts base followers l who rest j 1
       lead_new z = record {
         most = λ x.
             let p = holds x in
             let q = follows in
-            let t = new_turn (same_block x (block best)) (same_block x (block j)) (having x j) (count j (member followers)) weight z
-            (h.most x) in
-            omega arith;
-        from = inr f;
+            let m = h.most x in
+            new_turn (same_block x (block best)) (same_block x (block j)) (having followers x) (count most_senders (member followers))
+            (having rest x) (count most_senders (member rest)) weight z (omega arith);
+        place = t.0.few;
+        from = inr (h.inside j t.0.inside);
+        inside = within;
+        room = let q = follows in let m = h.room in omega arith;
       }
 
       module _ (r : Bool) (e : r ≡ same_block (block best) (block j)) where
-        pub lead_same : r ≡ true → Leads names counts base followers l who (j + 1) best (weight + 1)
+        pub lead_same : r ≡ true → Leads names counts base followers l who rest best (weight + 1)
         lead_same y = record {
           most = λ x.
               let p = holds x in
               let q = follows in
+              let m = h.most x in
               let b = same_block_eq (block best) (block j) (sym e ∙ y) in
-              let t = same_turn (same_block x (block best)) (same_block x (block j)) (having x j) (count j (member followers)) weight
-              (ap (λ (z : Block). same_block x z) (sym b)) (h.most x) in
-              omega arith;
+              same_turn (same_block x (block best)) (same_block x (block j)) (having followers x) (count most_senders (member followers))
+              (having rest x) (count most_senders (member rest)) weight
+              (ap (λ (z : Block). same_block x z) (sym b)) (omega arith);
+          place = h.place;
           from = h.from;
+          inside = within;
+          room = let q = follows in let m = h.room in omega arith;
         }
 
         apart : (x : Block) → r ≡ false → same_block x (block best) ≡ true → same_block x (block j) ≡ false
@@ -110,26 +111,27 @@ module _ (names counts : List ℕ) (base : ℕ) (followers : ℕ) (l who : ℕ) 
             absurd (false≢true (sym n ∙ e ∙ ap (λ (z : Block). same_block z (block j)) w ∙ same_block_refl (block j))))
             (λ b. b)
 
-        pub lead_other : r ≡ false → 0 < weight → Leads names counts base followers l who (j + 1) best (weight - 1)
+        pub lead_other : r ≡ false → (weight ≡ 0 → ⊥) → Leads names counts base followers l who rest best (weight - 1)
         lead_other n z = record {
           most = λ x.
               let p = holds x in
               let q = follows in
-              let t = other_turn (same_block x (block best)) (same_block x (block j)) (having x j) (count j (member followers)) weight
-              (apart x n) z (h.most x) in
-              omega arith;
+              let m = h.most x in
+              other_turn (same_block x (block best)) (same_block x (block j)) (having followers x) (count most_senders (member followers))
+              (having rest x) (count most_senders (member rest)) weight
+              (apart x n) z (omega arith);
+          place = h.place;
           from = h.from;
+          inside = within;
+          room = let q = follows in let m = h.room in omega arith;
         }
 
-    pub voted : j ≤ most_senders → left ≤ 0 → best < most_senders → MajorityAt names counts base followers l who best
-    voted a b c = record {
-      place = c;
+    pub voted : left ≡ 0 → MajorityAt names counts base followers l who best
+    voted none = record {
+      place = h.place;
       led = λ x q. either (same_block x (block best)) (λ y. y) (λ n.
           let m = h.most x in
-          let none = walk_end followers j left walk b in
-          let u = count_cut (have_block names counts base followers l x) j a
-          (λ i g. ap (λ (t : Bool). t && same_block x (block i)) (none i g)) in
-          let v = count_cut (member followers) j a none in
+          let u = ap (λ (z : ℕ). having z x) none ∙ count_no_one (λ (i : ℕ). same_block x (block i)) in
           let d = ap (λ (t : Bool). share t weight) n in
           absurd (omega arith));
       from = h.from;

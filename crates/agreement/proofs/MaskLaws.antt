@@ -12,7 +12,7 @@ use lib.Arith.{digits_mod, mod-mul}
 use lib.Bits.{differ, bit_and, bit_or, bit_xor, and_step, or_step, xor_step, and_shr, or_shr, xor_shr, and_high, or_lt, and_lt, xor_lt}
 use lib.Bits.{or_add_and, xor_add_and, xor_zero_r}
 use lib.Count.{ones, ones_cat, ones-le}
-use lib.Pow.{pow_pos, pow_mono, pow-lt, shl-shr, shl_exact, pow-add}
+use lib.Pow.{pow_pos, pow_mono, pow-lt, shl-shr, pow-add}
 use Rattle.message.proofs.TestLaws.{either, or_true, or_no}
 use Rattle.agreement.specs.Limits.{most_senders}
 use Rattle.agreement.specs.Sets.{share, weigh, count, member, adding, removing}
@@ -151,10 +151,6 @@ and_in set i e = and_alone set i ∙ ap (λ (d : ℕ). d * 2 ^ i) (digit_in set 
 
 and_out : (set i : ℕ) → member set i ≡ false → bit_and set (2 ^ i) ≡ 0
 and_out set i e = and_alone set i ∙ ap (λ (d : ℕ). d * 2 ^ i) (digit_out set i e) ∙ omega arith
-
--- as the code adds a sender, and takes one out
-pub alone_is : (i : ℕ) → i < most_senders → (1 * 2 ^ i) % 2 ^ most_senders ≡ 2 ^ i
-alone_is i h = shl_exact 1 i most_senders (omega arith) (omega arith) ∙ omega arith
 
 pub has_is : (set i : ℕ) → eqb (set / 2 ^ i % 2) 1 ≡ member set i
 unfolding member

@@ -1,23 +1,20 @@
 -- One block more, or a run of them: which logs start so, and the set of the followers whose log does. Assumes nothing.
-use Prim.Native.Nat.{ℕ, zero, suc, ◌+◌, ◌/◌, ◌%◌, ◌^◌, ◌≤◌, ◌<◌}
+use Prim.Native.Nat.{ℕ, zero, suc, ◌+◌, ◌≤◌}
 use native.Mathlib.Omega.{arith}
 use mathlib.Core.Bool.{Bool, true, false, ◌&&◌, false≢true}
 use mathlib.Core.List.{List}
-use mathlib.Core.Path.{◌≡◌, refl, sym, ap, subst, ◌∙◌}
+use mathlib.Core.Path.{◌≡◌, refl, sym, ap, ◌∙◌}
 use borrow.Author.Tests.{ltb-true, ltb-false, leb-true, le-leb, lt-leb}
-use lib.Dec.{ltb, leb, eqb}
-use lib.ListN.{get_or}
+use lib.Dec.{ltb, leb}
 use Rattle.message.specs.Limits.{most_blocks}
 use Rattle.message.specs.Logs.{same_block, is_prefix}
 use Rattle.message.specs.Store.{block_at, log_at}
 use Rattle.message.proofs.TestLaws.{either}
 use Rattle.message.proofs.LogLaws.{prefix_length, is_prefix_iff}
 use Rattle.message.proofs.ListedLaws.{length_at_lem, prefix_one_more}
-use Rattle.agreement.specs.Limits.{most_senders, place_of}
-use Rattle.agreement.specs.Sets.{weigh, member, adding}
-use Rattle.agreement.specs.Steps.{SetOf, Walks, next_block, narrowed, chunk_length, alike, narrowed_by, Far, Next, Chunk}
-use Rattle.agreement.proofs.CountLaws.{walk_start, walk_next, walk_below, walk_room, set_none, pass_skip, pass_yes, pass_no}
-use Rattle.agreement.proofs.CountLaws.{pass_end}
+use Rattle.agreement.specs.Limits.{most_senders}
+use Rattle.agreement.specs.Sets.{weigh, member}
+use Rattle.agreement.specs.Steps.{SetOf, chunk_length, alike, narrowed_by, Far}
 
 -- to have more than l is to have l + 1
 over : (l m y : ℕ) → m ≡ l + 1 → ltb l y ≡ leb m y
@@ -30,12 +27,6 @@ module _ (names counts : List ℕ) where
   abbrev same : ℕ → ℕ → Bool
   same a b = same_block (block_at names counts a) (block_at names counts b)
 
-  -- the blocks after l blocks at two places that the code found
-  pub next_same : (base l i j p q : ℕ) (r : Bool) → p ≡ place_of base i → q ≡ place_of base j
-      → r ≡ same_block (block_at names counts (p + l)) (block_at names counts (q + l))
-      → r ≡ same_block (next_block names counts base l i) (next_block names counts base l j)
-  next_same base l i j p q r d e f = f ∙ (λ k. same_block (block_at names counts (d k + l)) (block_at names counts (e k + l)))
-
   -- ---- a chunk of blocks
 
   pub alike_none : (a b : ℕ) → true ≡ alike names counts a b 0
@@ -46,10 +37,6 @@ module _ (names counts : List ℕ) where
       → (r && x) ≡ alike names counts a b (i + 1)
   unfolding alike
   alike_next a b i r x e f = let s : suc i ≡ i + 1 = omega arith in (λ k. e k && f k) ∙ ap (alike names counts a b) s
-
-  pub alike_all : (a b i : ℕ) (r : Bool) → r ≡ alike names counts a b i → i ≤ chunk_length → chunk_length ≤ i
-      → r ≡ alike names counts a b chunk_length
-  alike_all a b i r e h g = let s : i ≡ chunk_length = omega arith in e ∙ ap (alike names counts a b) s
 
   -- a log that is a prefix is not longer
   short : (a b l y : ℕ)
@@ -102,130 +89,3 @@ module _ (names counts : List ℕ) where
   pub far_none : (base : ℕ) (lengths : List ℕ) (followers l c : ℕ) → Far names counts base lengths followers l c 0
   unfolding weigh member
   far_none base lengths followers l c = record { some = λ h. absurd (omega arith) }
-
--- ---- the loop over the followers: those whose log goes on with the block at c's place, of those below i
-
-pub record Narrowing (names counts lengths : List ℕ) (followers base l c name count i left next : ℕ) : Type 0 where
-  pub walk : Walks followers i left
-  pub room : i ≤ most_senders
-  same_name : name ≡ get_or names (place_of base c + l) 0
-  same_count : count ≡ get_or counts (place_of base c + l) 0
-  pub set : SetOf (narrowed names counts base lengths followers l (next_block names counts base l c)) i next
-
-module _ (names counts lengths : List ℕ) (followers base l c : ℕ) where
-  abbrev goes : ℕ → Bool
-  goes j = ltb l (get_or lengths j 0) && same_block (next_block names counts base l c) (next_block names counts base l j)
-
-  pub narrow_none : followers < 2 ^ most_senders
-      → Narrowing names counts lengths followers base l c (get_or names (place_of base c + l) 0)
-      (get_or counts (place_of base c + l) 0) 0 followers 0
-  narrow_none h = record {
-    walk = walk_start followers h;
-    room = omega arith;
-    same_name = refl;
-    same_count = refl;
-    set = set_none (narrowed names counts base lengths followers l (next_block names counts base l c));
-  }
-
-  module _ (name count i left next : ℕ) (n : Narrowing names counts lengths followers base l c name count i left next) where
-    -- the next turn, with these senders
-    turn : 0 < left → (more : ℕ) → SetOf (narrowed names counts base lengths followers l (next_block names counts base l c)) (i + 1) more
-        → Narrowing names counts lengths followers base l c name count (i + 1) (left / 2) more
-    turn p more s = record {
-      walk = walk_next followers i left n.walk;
-      room = walk_room followers i left n.walk p;
-      same_name = n.same_name;
-      same_count = n.same_count;
-      set = s;
-    }
-
-    pub narrow_skip : 0 < left → eqb (left % 2) 1 ≡ false
-        → Narrowing names counts lengths followers base l c name count (i + 1) (left / 2) next
-    narrow_skip p e = turn p next (pass_skip followers goes next i left n.set n.walk e)
-
-    module _ (p : 0 < left) (e : eqb (left % 2) 1 ≡ true) (r : Bool)
-        (f : r ≡ (ltb l (get_or lengths i 0) &&
-        (eqb name (get_or names (place_of base i + l) 0) && eqb count (get_or counts (place_of base i + l) 0)))) where
-      found : goes i ≡ r
-      found =
-          let s = n.same_name in
-          let u = n.same_count in
-          sym (f ∙ (λ x. ltb l (get_or lengths i 0) &&
-          (eqb (s x) (get_or names (place_of base i + l) 0) && eqb (u x) (get_or counts (place_of base i + l) 0))))
-
-      pub narrow_yes : (more : ℕ) → r ≡ true → more ≡ adding next i
-          → Narrowing names counts lengths followers base l c name count (i + 1) (left / 2) more
-      narrow_yes more t v =
-          turn p more
-          (subst (λ (z : ℕ). SetOf (narrowed names counts base lengths followers l (next_block names counts base l c)) (i + 1) z) (sym v)
-          (pass_yes followers goes next i left n.set n.walk e (found ∙ t)))
-
-      pub narrow_no : r ≡ false → Narrowing names counts lengths followers base l c name count (i + 1) (left / 2) next
-      narrow_no t = turn p next (pass_no followers goes next i left n.set n.walk e (found ∙ t))
-
-    pub narrow_end : left ≤ 0 → SetOf (narrowed names counts base lengths followers l (next_block names counts base l c)) most_senders next
-    narrow_end z = pass_end followers goes next i left n.set n.walk z n.room
-
--- ---- the same with the chunk of blocks at place a, which is c's
-
-pub record Running (names counts lengths : List ℕ) (followers base l c a i left next : ℕ) : Type 0 where
-  pub walk : Walks followers i left
-  pub room : i ≤ most_senders
-  pub place : a ≡ place_of base c + l
-  pub set : SetOf (narrowed_by names counts base lengths followers l c chunk_length) i next
-
-module _ (names counts lengths : List ℕ) (followers base l c : ℕ) where
-  abbrev runs : ℕ → Bool
-  runs j = leb (l + chunk_length) (get_or lengths j 0) && alike names counts (place_of base c + l) (place_of base j + l) chunk_length
-
-  pub chunk_none : followers < 2 ^ most_senders → Running names counts lengths followers base l c (place_of base c + l) 0 followers 0
-  chunk_none h = record {
-    walk = walk_start followers h;
-    room = omega arith;
-    place = refl;
-    set = set_none (narrowed_by names counts base lengths followers l c chunk_length);
-  }
-
-  module _ (a i left next : ℕ) (n : Running names counts lengths followers base l c a i left next) where
-    chunk_turn : 0 < left → (more : ℕ) → SetOf (narrowed_by names counts base lengths followers l c chunk_length) (i + 1) more
-        → Running names counts lengths followers base l c a (i + 1) (left / 2) more
-    chunk_turn p more s =
-        record { walk = walk_next followers i left n.walk; room = walk_room followers i left n.walk p; place = n.place; set = s }
-
-    pub chunk_skip : 0 < left → eqb (left % 2) 1 ≡ false → Running names counts lengths followers base l c a (i + 1) (left / 2) next
-    chunk_skip p e = chunk_turn p next (pass_skip followers runs next i left n.set n.walk e)
-
-    -- what a turn asks of the lists
-    pub chunk_asks : Next names counts base l → l + chunk_length ≤ most_blocks → c < most_senders → 0 < left → Chunk names counts base l a i
-    chunk_asks x few k p =
-        let y = x.in_names in
-        let z = x.in_counts in
-        let e = n.place in
-        record {
-          in_names = y;
-          in_counts = z;
-          few = few;
-          from_names = omega arith;
-          from_counts = omega arith;
-          sender = walk_below followers i left n.walk p;
-        }
-
-    module _ (p : 0 < left) (e : eqb (left % 2) 1 ≡ true) (r : Bool)
-        (f : r ≡ (leb (l + chunk_length) (get_or lengths i 0) && alike names counts a (place_of base i + l) chunk_length)) where
-      chunk_found : runs i ≡ r
-      chunk_found =
-          sym (f ∙ ap (λ (z : ℕ). leb (l + chunk_length) (get_or lengths i 0) && alike names counts z (place_of base i + l) chunk_length)
-          n.place)
-
-      pub chunk_yes : (more : ℕ) → r ≡ true → more ≡ adding next i
-          → Running names counts lengths followers base l c a (i + 1) (left / 2) more
-      chunk_yes more t v =
-          chunk_turn p more
-          (subst (λ (z : ℕ). SetOf (narrowed_by names counts base lengths followers l c chunk_length) (i + 1) z) (sym v)
-          (pass_yes followers runs next i left n.set n.walk e (chunk_found ∙ t)))
-
-      pub chunk_no : r ≡ false → Running names counts lengths followers base l c a (i + 1) (left / 2) next
-      chunk_no t = chunk_turn p next (pass_no followers runs next i left n.set n.walk e (chunk_found ∙ t))
-
-    pub chunk_end : left ≤ 0 → SetOf (narrowed_by names counts base lengths followers l c chunk_length) most_senders next
-    chunk_end z = pass_end followers runs next i left n.set n.walk z n.room

@@ -2,13 +2,12 @@
 use Prim.Native.Nat.{ℕ}
 use mathlib.Core.List.{List}
 use mathlib.Core.Bool.{Bool, true, false, ◌&&◌}
-use mathlib.Core.Path.{◌≡◌, refl, ap}
+use mathlib.Core.Path.{◌≡◌, refl}
 use lib.Dec.{eqb}
 use lib.ListN.{get_or, set}
 use Rattle.message.specs.Numbers.{put}
 use Rattle.message.specs.Logs.{same_log, names_of, counts_of}
 use Rattle.message.specs.Message.{count_in, log_in}
-use Rattle.message.specs.Store.{log_at}
 use Rattle.agreement.specs.Limits.{place_of}
 use Rattle.agreement.specs.Sets.{member}
 use Rattle.agreement.specs.Record.{filed_log}
@@ -18,12 +17,6 @@ use Rattle.agreement.specs.declared.Shown.{Shown}
 use Rattle.agreement.specs.declared.Answer.TheVariants.{First, Second, Known}
 use Rattle.agreement.proofs.FilingLaws.{fit_not_unfit}
 
--- the code's test, from what it found
-pub same_is : (names counts : List ℕ) (base : ℕ) (s : List ℕ) (i k held priority : ℕ) (r : Bool)
-    → r ≡ same_log (log_in s) (log_at names counts (place_of base i) k)
-    → (r && eqb priority held) ≡ (same_log (log_in s) (log_at names counts (place_of base i) k) && eqb priority held)
-same_is names counts base s i k held priority r e = ap (λ (t : Bool). t && eqb priority held) e
-
 module _ (m : Shown) (lengths priorities names counts : List ℕ) (base : ℕ) (s : List ℕ) (i priority : ℕ) where
   abbrev g : Proposals
   g = proposals_from m lengths priorities
@@ -31,7 +24,7 @@ module _ (m : Shown) (lengths priorities names counts : List ℕ) (base : ℕ) (
   -- known, and all is as it was
   abbrev Still : Type 0
   Still = FilesProposal (file_proposal_of g names counts base s i priority)
-      (record { answer = Known; marks = m }) lengths priorities names counts
+      (record { answer = Known; after = m }) lengths priorities names counts
 
   pub proposal_unfit : (r : Bool) → r ≡ unfit names counts base s i → r ≡ true → Still
   unfolding file_proposal_of
@@ -56,7 +49,7 @@ module _ (m : Shown) (lengths priorities names counts : List ℕ) (base : ℕ) (
 
         pub proposal_other : (h : Shown) → r ≡ false → h ≡ shown_twice m i
             → FilesProposal (file_proposal_of g names counts base s i priority)
-            (record { answer = Second; marks = h }) lengths priorities names counts
+            (record { answer = Second; after = h }) lengths priorities names counts
         unfolding file_proposal_of
         proposal_other h t w =
             rw (fit_not_unfit names counts base s i f, ← p, q, ← u, v, ← e, t)
@@ -65,7 +58,7 @@ module _ (m : Shown) (lengths priorities names counts : List ℕ) (base : ℕ) (
       pub proposal_new : (h : Shown) (ls ps ns cs : List ℕ) → y ≡ false
           → (ns ≡ put names (place_of base i) (names_of (log_in s))) × (cs ≡ put counts (place_of base i) (counts_of (log_in s)))
           → ls ≡ set lengths i (count_in s) → ps ≡ set priorities i priority → h ≡ shown_once m i
-          → FilesProposal (file_proposal_of g names counts base s i priority) (record { answer = First; marks = h }) ls ps ns cs
+          → FilesProposal (file_proposal_of g names counts base s i priority) (record { answer = First; after = h }) ls ps ns cs
       unfolding file_proposal_of
       proposal_new h ls ps ns cs v (a, b) l d w =
           rw (fit_not_unfit names counts base s i f, ← p, q, ← u, v)

@@ -16,12 +16,12 @@ use Rattle.message.proofs.Inside.{prefix_inside}
 use Rattle.agreement.specs.Limits.{most_senders, place_of}
 use Rattle.agreement.specs.Sets.{ones, count, member}
 use Rattle.agreement.specs.Reading.{Reading, may_support, supports, Grade}
-use Rattle.agreement.specs.Record.{Agreement, is_voter, is_sender, lacks_room, overlong, reading_of}
+use Rattle.agreement.specs.Record.{Agreement, agreement_from, is_voter, is_sender, lacks_room, overlong, reading_of}
 use Rattle.agreement.specs.Tally.{supporters_of, supporters_at}
-use Rattle.agreement.specs.Steps.{Readable, backs}
+use Rattle.agreement.specs.Steps.{Readable, Lent, backs}
 use Rattle.agreement.proofs.SetLaws.{weigh_cong}
 use Rattle.agreement.proofs.FilingLaws.{within_room}
-use Rattle.agreement.proofs.FindLaws.{barred, find_asks}
+use Rattle.agreement.proofs.FindLaws.{readable_where}
 
 module _ (names counts : List ℕ) (base : ℕ) (g : Agreement) (among : ℕ) where
   abbrev R : Reading
@@ -55,11 +55,10 @@ module _ (names counts : List ℕ) (base : ℕ) (g : Agreement) (among : ℕ) wh
   pub tally_placed : (i k : ℕ) → (leb most_senders i || ltb most_blocks k) ≡ false → i < most_senders
   tally_placed i k e = leb-false most_senders i (or_false (leb most_senders i) (ltb most_blocks k) e).0
 
-  module _ (i k : ℕ) (placed : (leb most_senders i || ltb most_blocks k) ≡ false) (v x : Bool) (e : v ≡ lacks_room names counts base)
-      (f : x ≡ ltb 0 (count most_senders (λ (j : ℕ). ltb most_blocks (get_or g.lengths j 0)))) where
-    pub tally_barred : (v || x) ≡ true → 0 ≡ supporters_at names counts base g among i k
+  module _ (i k : ℕ) (placed : (leb most_senders i || ltb most_blocks k) ≡ false) where
+    pub tally_barred : (lacks_room names counts base || overlong g.lengths) ≡ true → 0 ≡ supporters_at names counts base g among i k
     unfolding supporters_at supporters_of
-    tally_barred t = rw (placed, barred names counts base g.lengths v x e f ∙ t)
+    tally_barred t = rw (placed, t)
 
     abbrev L : Log
     L = log_at names counts (place_of base i) k
@@ -74,11 +73,12 @@ module _ (names counts : List ℕ) (base : ℕ) (g : Agreement) (among : ℕ) wh
         (within_room names counts base i k ok.in_names ok.in_counts (leb-false most_senders i p.0) (ltb-false most_blocks k p.1))
         (within_room names counts base j (get_or g.lengths j 0) ok.in_names ok.in_counts h (ok.short j h)))
 
-    pub tally_counted : (p n : ℕ) → (v || x) ≡ false → p ≡ place_of base i → n ≡ count most_senders (backs names counts base g among p k)
+    pub tally_counted : (p n : ℕ) (ns cs ls : List ℕ) (b : ℕ) → Lent names counts base g.lengths ns cs b ls → p ≡ place_of base i
+        → n ≡ count most_senders (backs ns cs b (agreement_from g.marks ls) among p k)
         → n ≡ supporters_at names counts base g among i k
     unfolding supporters_at supporters_of
-    tally_counted p n t q d =
-        let c = d ∙ ap (λ (a : ℕ). count most_senders (backs names counts base g among a k)) q in
-        let ok = find_asks names counts base g.lengths v x e f t in
-        rw (placed, barred names counts base g.lengths v x e f ∙ t)
-        (c ∙ weigh_cong most_senders ones (backs names counts base g among (place_of base i) k) (supports R L) (supports_same ok))
+    tally_counted p n ns cs ls b t q d =
+        let c = rw (t.1, t.2, t.3, t.4, q) at d in
+        rw (placed, t.0)
+        (c ∙ weigh_cong most_senders ones (backs names counts base g among (place_of base i) k) (supports R L)
+        (supports_same (readable_where names counts base g.lengths t.0)))

@@ -8,7 +8,7 @@ use Rattle.message.specs.Store.{holds_log}
 use Rattle.agreement.specs.Limits.{most_senders, span, place_of}
 use Rattle.agreement.specs.Record.{Agreement, agreement_from, is_voter, is_equivocator, filed_log, lacks_room, heard_once, heard_twice}
 use Rattle.agreement.specs.Record.{with_first, with_second}
-use Rattle.agreement.specs.declared.Filed.{Filed}
+use Rattle.agreement.specs.declared.Given.{Given}
 use Rattle.agreement.specs.declared.Marks.{Marks}
 use Rattle.agreement.specs.declared.Answer.{Answer}
 use Rattle.agreement.specs.declared.Answer.TheVariants.{First, Second, Known}
@@ -69,9 +69,9 @@ file_of g names counts base s i =
     (pick (is_voter g i) (again_of g names counts base s i) (first_of g names counts base s i))
 
 -- A call answered and left record and lists so.
-pub record Files (t : Filing) (r : Filed) (lengths names counts : List ℕ) : Type 0 where
+pub record Files (t : Filing) (r : Given Answer Marks) (lengths names counts : List ℕ) : Type 0 where
   pub answered : word_of r.answer ≡ t.word
-  pub marks : r.marks ≡ t.agreement.marks
+  pub marks : r.after ≡ t.agreement.marks
   pub length_list : lengths ≡ t.agreement.lengths
   pub name_list : names ≡ t.names
   pub count_list : counts ≡ t.counts
@@ -87,4 +87,4 @@ pub record LogStored (voters equivocators : ℕ) (lengths names counts : List �
     (lengths' names' counts' : List ℕ) : Type 0 where
   pub whole : (m : Marks) → m.voters ≡ voters → m.equivocators ≡ equivocators
       → Files (file_of (agreement_from m lengths) names counts base s i)
-      (record { answer = a; marks = marked_by m a i }) lengths' names' counts'
+      (record { answer = a; after = marked_by m a i }) lengths' names' counts'

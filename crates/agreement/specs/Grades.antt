@@ -1,5 +1,6 @@
 -- The grades of an agreement (document 01, "Counting in one agreement"): which snapshot each uses, and the log it gives. Assumes nothing.
-use Rattle.std.specs.Prelude.{ℕ, zero, suc, ◌≤◌, ◌<◌, ◌||◌, List, ◌≡◌}
+use Rattle.std.specs.Prelude.{ℕ, zero, suc, ◌≤◌, ◌<◌, ◌||◌, List, ◌≡◌, Some, None}
+use Rattle.std.specs.Prelude as std
 use Rattle.std.proofs.Math.Option.{Option, some, none}
 use Rattle.message.specs.Limits.{most_blocks}
 use Rattle.message.specs.Choice.{pick}
@@ -11,8 +12,7 @@ use Rattle.agreement.specs.Reading.{longest}
 use Rattle.agreement.specs.Record.{Agreement, lacks_room, overlong, reading_of, one, two, snapshot_at, snapshot_now}
 use Rattle.agreement.specs.declared.Snapshot.{Snapshot}
 use Rattle.agreement.specs.declared.Marks.{Marks}
-use Rattle.agreement.specs.declared.Grade.{Grade}
-use Rattle.agreement.specs.declared.Grade.TheVariants.{Longest, Nothing}
+use Rattle.agreement.specs.declared.Longest.{Longest}
 
 -- The longest log with the grade, supporters being counted among those of the snapshot. A record with a length over 64, or lists without
 -- room for its logs, has none: the bench refuses both (9, 8) before it asks.
@@ -33,17 +33,17 @@ snapshot_for (suc (suc k)) m = snapshot_at one m
 abbrev pub grade_of : List ℕ → List ℕ → ℕ → Agreement → ℕ → Option Log
 grade_of names counts base g k = grade_by names counts base g (snapshot_for k g.marks)
 
--- the code's answer, as the log it stands for: the k blocks at sender i's place
-abbrev pub log_of : List ℕ → List ℕ → ℕ → Grade → Option Log
-log_of names counts base Nothing = none
-log_of names counts base (Longest i k) = some (log_at names counts (place_of base i) k)
+-- the code's answer, as the log it stands for: so many blocks at the sender's place
+abbrev pub log_of : List ℕ → List ℕ → ℕ → std.Option Longest → Option Log
+log_of names counts base None = none
+log_of names counts base (Some p) = some (log_at names counts (place_of base p.sender) p.blocks)
 
 -- where that log stands: at a sender's place, 64 blocks at the most; whose place is not fixed by the rules
-abbrev pub Placed : Grade → Type 0
-Placed Nothing = Unit {0}
-Placed (Longest i k) = (i < most_senders) × (k ≤ most_blocks)
+abbrev pub Placed : std.Option Longest → Type 0
+Placed None = Unit {0}
+Placed (Some p) = (p.sender < most_senders) × (p.blocks ≤ most_blocks)
 
 -- A call answered so.
-pub record Gives (o : Option Log) (names counts : List ℕ) (base : ℕ) (r : Grade) : Type 0 where
+pub record Gives (o : Option Log) (names counts : List ℕ) (base : ℕ) (r : std.Option Longest) : Type 0 where
   pub log : log_of names counts base r ≡ o
   pub placed : Placed r

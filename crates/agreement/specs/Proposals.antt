@@ -1,5 +1,6 @@
 -- The proposals of a view, and the vote (document 01, "Receive" and "Calendar of acts"). Assumes nothing.
-use Rattle.std.specs.Prelude.{ℕ, zero, suc, ◌≤◌, ◌<◌, Bool, true, false, not, ◌&&◌, ◌||◌, List, ◌⊎◌, ◌≡◌, eqb, ltb, get_or, set, replicate}
+use Rattle.std.specs.Prelude.{ℕ, zero, suc, ◌≤◌, ◌<◌, Bool, true, false, not, ◌&&◌, ◌||◌, List, ◌⊎◌, ◌≡◌, eqb, ltb, get_or, set, replicate, Some, None}
+use Rattle.std.specs.Prelude as std
 use Rattle.std.proofs.Math.Option.{Option, some, none}
 use Rattle.message.specs.Choice.{pick}
 use Rattle.message.specs.Numbers.{put}
@@ -11,9 +12,8 @@ use Rattle.agreement.specs.Sets.{member, adding}
 use Rattle.agreement.specs.Record.{filed_log, lacks_room}
 use Rattle.agreement.specs.Filing.{Word, first, second, known, word_of, unfit}
 use Rattle.agreement.specs.declared.Shown.{Shown}
-use Rattle.agreement.specs.declared.FiledProposal.{FiledProposal}
-use Rattle.agreement.specs.declared.Choice.{Choice}
-use Rattle.agreement.specs.declared.Choice.TheVariants.{Proposal, Lock}
+use Rattle.agreement.specs.declared.Answer.{Answer}
+use Rattle.agreement.specs.declared.Given.{Given}
 
 -- the code's numbers, and beside them the blocks and the priority of each sender's proposal
 pub record Proposals : Type 0 where
@@ -85,9 +85,9 @@ file_proposal_of g names counts base s i priority =
     (first_proposal_of g names counts base s i priority))
 
 -- A call answered and left record and lists so.
-pub record FilesProposal (t : ProposalFiling) (r : FiledProposal) (lengths priorities names counts : List ℕ) : Type 0 where
+pub record FilesProposal (t : ProposalFiling) (r : Given Answer Shown) (lengths priorities names counts : List ℕ) : Type 0 where
   pub answered : word_of r.answer ≡ t.word
-  pub marks : r.marks ≡ t.proposals.marks
+  pub marks : r.after ≡ t.proposals.marks
   pub length_list : lengths ≡ t.proposals.lengths
   pub priority_list : priorities ≡ t.proposals.priorities
   pub name_list : names ≡ t.names
@@ -134,16 +134,16 @@ choice_of names counts base g a k =
     pick (lacks_room names counts base) none (best_of most_senders (fits names counts base g a k) (λ (i : ℕ). get_or g.priorities i 0))
 
 -- the code's answer: whose proposal, or the lock
-abbrev pub chosen : Choice → Option ℕ
-chosen (Proposal i) = some i
-chosen Lock = none
+abbrev pub chosen : std.Option ℕ → Option ℕ
+chosen (Some i) = some i
+chosen None = none
 
 -- a sender that is chosen has a place in the record
-abbrev pub HasPlace : Choice → Type 0
-HasPlace (Proposal i) = i < most_senders
-HasPlace Lock = Unit {0}
+abbrev pub HasPlace : std.Option ℕ → Type 0
+HasPlace (Some i) = i < most_senders
+HasPlace None = Unit {0}
 
 -- A call answered so.
-pub record Chooses (o : Option ℕ) (r : Choice) : Type 0 where
+pub record Chooses (o : Option ℕ) (r : std.Option ℕ) : Type 0 where
   pub sender : chosen r ≡ o
   pub place : HasPlace r

@@ -25,7 +25,7 @@ may_support R i = R.single i && R.snap i
 unfoldable pub supports : Reading → Log → ℕ → Bool
 supports R L i = may_support R i && is_prefix L (R.log i)
 
--- L has the grade: "2 × (supporters) > |S|", over the senders below n, each with its weight. The code's answer is an enum of the same name.
+-- L has the grade: "2 × (supporters) > |S|", over the senders below n, each with its weight.
 unfoldable pub Grade : ℕ → (ℕ → ℕ) → Reading → Log → Type 0
 Grade n w R L = weigh n w R.heard < 2 * weigh n w (supports R L)
 

@@ -1,4 +1,6 @@
-// Filing a LOG: the first of a sender, a second that makes it an equivocator, or one that is known.
+// Filing a LOG: the first of a sender, a second that makes it an equivocator, or one that is known. Lists, place, bytes and sender are
+// handed on one by one, here, in `proposing` and in `room`, and what is known of them stays a `requires` (`Fit`): the lists are written, and
+// a struct that holds a `&mut` has no plain clauses.
 ghost use Rattle.std.specs.Prelude.{◌≡◌, ◌<◌};
 ghost use Rattle.agreement.specs.Limits.{most_senders};
 ghost use Rattle.agreement.specs.Record.{agreement_from, heard_once, heard_twice};
@@ -7,9 +9,10 @@ ghost use Rattle.agreement.specs.Kept.{is_vote_in};
 
 use super::room::{is_filed, store_log, unfit};
 use super::sets::{has, with_sender, without_sender};
-use super::{Answer, Filed, MOST_SENDERS, Marks};
+use super::{Answer, Given, MOST_SENDERS, Marks};
 
-// The marks with sender i in V.
+// The marks with sender i in V. Kept beside the functions of the same name in `proposing`, on another record: what they share is
+// `with_sender`.
 fn once(g: Marks, i: usize) -> Marks
     requires { i < most_senders }
     ensures { result ≡ heard_once g i }
@@ -117,7 +120,7 @@ pub fn file(
     base: u32,
     bytes: &[u8],
     sender: u8,
-) -> Filed
+) -> Given<Answer, Marks>
     ensures { Files
         (file_of (agreement_from g lengths.old) names.old counts.old base bytes.now sender) result
         lengths.new names.new counts.new }
@@ -132,9 +135,9 @@ pub fn file(
         bytes,
         sender,
     );
-    Filed {
+    Given {
         answer,
-        marks: marked(g, answer, sender),
+        after: marked(g, answer, sender),
     }
 }
 

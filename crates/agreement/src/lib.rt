@@ -5,6 +5,7 @@
 
 pub mod filing;
 pub mod grading;
+mod logs;
 pub mod proposing;
 mod room;
 pub mod sets;
@@ -22,7 +23,8 @@ pub const MOST_SENDERS: usize = 32;
 
 pub const SPAN: usize = MOST_SENDERS * MOST_BLOCKS;
 
-// A snapshot: who was in V when it was taken, and whether it was: zero no, any other yes.
+// A snapshot: who was in V when it was taken, and whether it was: zero no, any other yes. Kept a number beside the set, and no `Option`:
+// any bytes are a record.
 #[repr(C)]
 #[derive(Clone, Copy)]
 pub struct Snapshot {
@@ -54,39 +56,25 @@ pub struct Shown {
 }
 
 // The answer to a message filed.
-#[derive(Clone, Copy)]
+#[derive(Clone, Copy, PartialEq, Eq)]
 pub enum Answer {
     First,
     Second,
     Known,
 }
 
-// The answer to a LOG, and the marks afterwards.
+// An answer, and what is so after it.
 #[derive(Clone, Copy)]
-pub struct Filed {
-    pub answer: Answer,
-    pub marks: Marks,
+pub struct Given<A, S> {
+    pub answer: A,
+    pub after: S,
 }
 
-// The answer to a PROPOSAL, and the marks afterwards.
+// The longest log that has a grade: the sender at whose place it stands, and its number of blocks.
 #[derive(Clone, Copy)]
-pub struct FiledProposal {
-    pub answer: Answer,
-    pub marks: Shown,
-}
-
-// A grade: the longest log that has it, by the sender at whose place it stands and its number of blocks; or nothing.
-#[derive(Clone, Copy)]
-pub enum Grade {
-    Longest(u8, u8),
-    Nothing,
-}
-
-// A vote: for the proposal of a sender, or for the lock.
-#[derive(Clone, Copy)]
-pub enum Choice {
-    Proposal(u8),
-    Lock,
+pub struct Longest {
+    pub sender: u8,
+    pub blocks: u8,
 }
 
 pub fn empty(view: u32) -> Marks
@@ -115,7 +103,7 @@ pub(crate) fn snapshot_now(g: Marks) -> Snapshot
     }
 }
 
-// Snapshot one, or the second, is V now.
+// Snapshot one, or the second, is V now. Kept a bool, which names one of two.
 pub fn snap(g: Marks, second: bool) -> Marks
     ensures { result ≡ snapped (pick second two one) g }
 {
@@ -128,7 +116,8 @@ pub fn snap(g: Marks, second: bool) -> Marks
     h
 }
 
-// No sender has a log, or a proposal.
+// No sender has a log, or a proposal. Kept apart from the next function: as one function of any element its promise would speak of what
+// `Default` gives, which is not plainer than a zero.
 pub fn clear(lengths: &mut [u8; 32])
     ensures { lengths.new ≡ replicate most_senders 0 }
 {

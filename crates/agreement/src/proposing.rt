@@ -10,9 +10,9 @@ ghost use Rattle.agreement.specs.Steps.{Contest, beats};
 ghost use Rattle.agreement.specs.Proposals.{empty_shown, proposals_from, shown_once, shown_twice, file_proposal_of, FilesProposal, if_fits};
 ghost use Rattle.agreement.specs.Proposals.{choice_of, chosen, Chooses};
 
-use super::room::{is_filed, lacks_room, store_log, unfit, wide};
-use super::sets::{has, in_first, with_sender};
-use super::{Answer, Choice, FiledProposal, Shown};
+use super::room::{is_filed, lacks_room, store_log, unfit};
+use super::sets::{has, in_first, members, with_sender};
+use super::{Answer, Given, Shown};
 use message::MOST_BLOCKS;
 
 pub fn empty(view: u32) -> Shown
@@ -25,7 +25,7 @@ pub fn empty(view: u32) -> Shown
     }
 }
 
-// The marks with a proposal of sender i.
+// The marks with a proposal of sender i. Kept beside the functions of the same name in `filing`, on another record.
 fn once(g: Shown, i: usize) -> Shown
     requires { i < most_senders }
     ensures { result ≡ shown_once g i }
@@ -74,47 +74,35 @@ fn file_fit(
     bytes: &[u8],
     sender: u8,
     priority: u64,
-) -> FiledProposal
+) -> Given<Answer, Shown>
     requires { Fit names.old counts.old base bytes.now sender }
     ensures { FilesProposal
         (file_proposal_of (proposals_from g lengths.old priorities.old) names.old counts.old base
         bytes.now sender priority) result lengths.new priorities.new names.new counts.new }
 {
     let i = sender as usize;
-    if has(g.aside, i) {
-        return FiledProposal {
-            answer: Answer::Known,
-            marks: g,
-        };
-    }
-    if has(g.filed, i) {
-        if is_same(
-            names,
-            counts,
-            base,
-            lengths[i],
-            priorities[i],
-            bytes,
-            sender,
-            priority,
-        ) {
-            return FiledProposal {
-                answer: Answer::Known,
-                marks: g,
-            };
-        }
-        return FiledProposal {
-            answer: Answer::Second,
-            marks: twice(g, i),
-        };
-    }
-    store_log(names, counts, base, bytes, sender);
-    lengths[i] = bytes[0];
-    priorities[i] = priority;
-    FiledProposal {
-        answer: Answer::First,
-        marks: once(g, i),
-    }
+    let (answer, after) = if has(g.aside, i) {
+        (Answer::Known, g)
+    } else if !has(g.filed, i) {
+        store_log(names, counts, base, bytes, sender);
+        lengths[i] = bytes[0];
+        priorities[i] = priority;
+        (Answer::First, once(g, i))
+    } else if is_same(
+        names,
+        counts,
+        base,
+        lengths[i],
+        priorities[i],
+        bytes,
+        sender,
+        priority,
+    ) {
+        (Answer::Known, g)
+    } else {
+        (Answer::Second, twice(g, i))
+    };
+    Given { answer, after }
 }
 
 // The proposal in the bytes, filed. Where nothing can be filed, known, and nothing changes.
@@ -128,15 +116,15 @@ pub fn file(
     bytes: &[u8],
     sender: u8,
     priority: u64,
-) -> FiledProposal
+) -> Given<Answer, Shown>
     ensures { FilesProposal
         (file_proposal_of (proposals_from g lengths.old priorities.old) names.old counts.old base
         bytes.now sender priority) result lengths.new priorities.new names.new counts.new }
 {
     if unfit(names.len(), counts.len(), base, bytes, sender) {
-        return FiledProposal {
+        return Given {
             answer: Answer::Known,
-            marks: g,
+            after: g,
         };
     }
     file_fit(
@@ -145,11 +133,11 @@ pub fn file(
 }
 
 // Sender i, who comes after the best so far, is better by its priority.
-fn beats(best: Choice, priorities: &[u64; 32], i: usize) -> bool
+fn beats(best: Option<u8>, priorities: &[u64; 32], i: usize) -> bool
     requires { Contest best i }
     ensures { result ≡ beats (λ (j : ℕ). get_or priorities.now j 0) (chosen best) i }
 {
-    let Choice::Proposal(j) = best else {
+    let Some(j) = best else {
         return true;
     };
     priorities[j as usize] < priorities[i]
@@ -165,9 +153,9 @@ fn best_to(
     base: u32,
     a: usize,
     k: usize,
-    best: Choice,
+    best: Option<u8>,
     i: usize,
-) -> Choice
+) -> Option<u8>
     requires { Contest best i }
     ensures { Chooses
         (if_fits (prefix_at names.now counts.now a k (place_of base i) (get_or lengths.now i 0))
@@ -175,16 +163,17 @@ fn best_to(
 {
     if beats(best, priorities, i) {
         let at = base as usize + MOST_BLOCKS * i;
-        let blocks = wide(lengths[i]);
+        let blocks = usize::from(lengths[i]);
         if message::store::is_prefix(names, counts, a, k, at, blocks) {
-            return Choice::Proposal(i as u8);
+            return Some(i as u8);
         }
         return best;
     }
     best
 }
 
-// The sender whose proposal is voted for: of those that may be, the highest priority, the lower number on a tie.
+// The sender whose proposal is voted for: of those that may be, the highest priority, the lower number on a tie. None:
+// the vote is for the lock.
 pub fn choose(
     g: Shown,
     lengths: &[u8; 32],
@@ -194,24 +183,17 @@ pub fn choose(
     base: u32,
     a: usize,
     k: usize,
-) -> Choice
+) -> Option<u8>
     ensures { Chooses
         (choice_of names.now counts.now base (proposals_from g lengths.now priorities.now) a k) result }
 {
     if lacks_room(names.len(), counts.len(), base) {
-        return Choice::Lock;
+        return None;
     }
-    let mut best = Choice::Lock;
-    let mut left = in_first(g.filed, g.aside);
-    let mut i = 0;
-    while 0 < left {
-        let sender = i;
-        let shown = left % 2 == 1;
-        left = left / 2;
-        i += 1;
-        if shown {
-            best = best_to(lengths, priorities, names, counts, base, a, k, best, sender);
-        }
+    let shown = in_first(g.filed, g.aside);
+    let mut best = None;
+    for (i, _) in members(shown) {
+        best = best_to(lengths, priorities, names, counts, base, a, k, best, i);
     }
     best
 }

@@ -11,13 +11,6 @@ ghost use Rattle.agreement.specs.Filing.{Fit};
 use super::{MOST_SENDERS, SPAN};
 use message::MOST_BLOCKS;
 
-// A length, to be compared with others.
-pub(crate) fn wide(x: u8) -> usize
-    ensures { (result ≡ x) × (result < 256) }
-{
-    x as usize
-}
-
 // Where sender i's log stands.
 pub(crate) fn place_of(base: u32, i: usize) -> usize
     requires { i < most_senders }

@@ -1,8 +1,10 @@
-// Sets of senders as numbers: digit i tells of sender i.
-ghost use Rattle.std.specs.Prelude.{◌≡◌, ◌&&◌, ◌||◌, not, ◌^◌, ◌≤◌, ◌<◌, leb, ltb};
+// Sets of senders as numbers: digit i tells of sender i. That i is below 32 stays a `requires` where it is used: a type for it would be taken
+// apart at each place.
+ghost use Rattle.std.specs.Prelude.{◌≡◌, ◌&&◌, ◌||◌, not, ℕ, ◌^◌, ◌≤◌, ◌<◌, leb, ltb};
+ghost use Rattle.std.specs.Iterator.{at_most};
 ghost use Rattle.agreement.specs.Limits.{most_senders};
 ghost use Rattle.agreement.specs.Sets.{count, member, adding, removing};
-ghost use Rattle.agreement.specs.Steps.{SetOf};
+ghost use Rattle.agreement.specs.Steps.{SetOf, TakesLowest, Filtered};
 
 use super::MOST_SENDERS;
 
@@ -70,18 +72,57 @@ pub(crate) fn in_either(a: u32, b: u32) -> u32
     a | b
 }
 
-// How many senders are in the set.
-fn digits(set: u32) -> u32
-    ensures { (result ≡ count most_senders (member set)) × (result ≤ most_senders) }
-{
-    u32::count_ones(set)
+// Senders that are left of a set, to be taken one after another, the lowest first.
+#[derive(Clone, Copy)]
+pub(crate) struct Iter {
+    left: u32,
 }
 
-// The same, to be compared with other counts.
+// The senders of a set, the lowest first, each with its digit.
+pub(crate) fn members(set: u32) -> Iter
+    ensures { result.left ≡ set }
+{
+    Iter { left: set }
+}
+
+impl Iterator for Iter {
+    type Item = (usize, u32);
+
+    ghost next_gives = { TakesLowest };
+
+    ghost remaining = { λ s. at_most (count most_senders (member s.left)) };
+
+    fn next(&mut self) -> Option<(usize, u32)> {
+        if self.left == 0 {
+            return None;
+        }
+        let i = self.left.trailing_zeros() as usize;
+        let rest = self.left & (self.left - 1);
+        let digit = self.left - rest;
+        self.left = rest;
+        Some((i, digit))
+    }
+}
+
+// The senders of a set that pass a test.
+pub(crate) fn filtered<F: Fn(usize) -> bool>(set: u32, passes: F) -> u32
+    requires { (j : ℕ) → j < most_senders → F.pre passes j }
+    ensures { Filtered (F.post passes) set result }
+{
+    let mut kept = 0;
+    for (i, digit) in members(set) {
+        if passes(i) {
+            kept |= digit;
+        }
+    }
+    kept
+}
+
+// How many senders are in the set.
 pub(crate) fn size(set: u32) -> usize
     ensures { (result ≡ count most_senders (member set)) × (result ≤ most_senders) }
 {
-    digits(set) as usize
+    set.count_ones() as usize
 }
 
 // A sender at n or above is in the set.

@@ -1,23 +1,16 @@
 // Counting senders: all that are heard, and those that support a log.
-ghost use Rattle.std.specs.Prelude.{◌≡◌, ◌≤◌, ◌<◌, ltb, get_or, ◌||◌};
-ghost use Rattle.message.specs.Choice.{pick};
+ghost use Rattle.std.specs.Prelude.{◌≡◌, ℕ, ◌≤◌, ◌<◌, ltb, get_or, ◌||◌};
 ghost use Rattle.agreement.specs.Limits.{most_senders};
-ghost use Rattle.agreement.specs.Sets.{share, count, member};
+ghost use Rattle.agreement.specs.Sets.{count, member};
 ghost use Rattle.agreement.specs.Record.{agreement_from};
 ghost use Rattle.agreement.specs.Tally.{supporters_at};
-ghost use Rattle.agreement.specs.Steps.{backs};
+ghost use Rattle.agreement.specs.Steps.{Passes, backs};
 
-use super::room::{lacks_room, place_of, wide};
+use super::logs::{Logs, readable};
+use super::room::place_of;
 use super::sets::{has, in_either, size};
 use super::{MOST_SENDERS, Marks};
 use message::MOST_BLOCKS;
-
-// A test as a number, to be added up.
-fn added(test: bool) -> usize
-    ensures { (result ≡ share test 1) × (result ≤ 1) }
-{
-    test as usize
-}
 
 // |S|: the senders in V or in E.
 pub fn senders(g: Marks) -> usize
@@ -26,27 +19,23 @@ pub fn senders(g: Marks) -> usize
     size(in_either(g.voters, g.equivocators))
 }
 
+// Some sender passes the test. All are looked at, without a branch.
+fn some_passes<F: Fn(usize) -> bool>(test: F) -> bool
+    requires { (i : ℕ) → i < most_senders → F.pre test i }
+    ensures { Passes (F.post test) most_senders result }
+{
+    let mut some = false;
+    for i in 0..MOST_SENDERS {
+        some = some | test(i);
+    }
+    some
+}
+
 // Some sender's number in the row is over l.
 pub(crate) fn is_over(row: &[u8; 32], l: usize) -> bool
     ensures { result ≡ ltb 0 (count most_senders (λ i. ltb l (get_or row.now i 0))) }
 {
-    let mut over = false;
-    let mut i = 0;
-    while i < MOST_SENDERS {
-        over = over | (l < wide(row[i]));
-        i += 1;
-    }
-    over
-}
-
-// The larger of two numbers.
-fn larger(a: u8, b: u8) -> u8
-    ensures { result ≡ pick (ltb a b) b a }
-{
-    if a < b {
-        return b;
-    }
-    a
+    some_passes(|i| l < usize::from(row[i]))
 }
 
 // Some sender's number in one of three rows is over l. The largest of three is tested, not each.
@@ -55,57 +44,32 @@ pub fn are_over(a: &[u8; 32], b: &[u8; 32], c: &[u8; 32], l: usize) -> bool
         || (ltb 0 (count most_senders (λ i. ltb l (get_or b.now i 0))) || ltb 0
         (count most_senders (λ i. ltb l (get_or c.now i 0))))) }
 {
-    let mut over = false;
-    let mut i = 0;
-    while i < MOST_SENDERS {
-        over = over | (l < wide(larger(a[i], larger(b[i], c[i]))));
-        i += 1;
-    }
-    over
+    some_passes(|i| l < usize::from(a[i].max(b[i]).max(c[i])))
 }
 
-// Sender j supports the k blocks at place a.
-fn is_behind(
-    g: Marks,
-    lengths: &[u8; 32],
-    names: &[u64],
-    counts: &[u16],
-    base: u32,
-    among: u32,
-    a: usize,
-    k: usize,
-    j: usize,
-) -> bool
-    requires { j < most_senders }
-    ensures { result ≡ backs names.now counts.now base (agreement_from g lengths.now) among a k j }
-{
-    let at = place_of(base, j);
-    let blocks = wide(lengths[j]);
-    let has_log = message::store::is_prefix(names, counts, a, k, at, blocks);
-    (has(g.voters, j) & has(among, j)) & has_log
-}
-
-// How many do.
-fn count_behind(
-    g: Marks,
-    lengths: &[u8; 32],
-    names: &[u64],
-    counts: &[u16],
-    base: u32,
-    among: u32,
-    a: usize,
-    k: usize,
-) -> usize
-    ensures { (result ≡ count most_senders
-        (backs names.now counts.now base (agreement_from g lengths.now) among a k)) × (result ≤ most_senders) }
-{
-    let mut n = 0;
-    let mut j = 0;
-    while j < MOST_SENDERS {
-        n += added(is_behind(g, lengths, names, counts, base, among, a, k, j));
-        j += 1;
+impl<'a> Logs<'a> {
+    // Sender j supports the k blocks at place a.
+    fn is_behind(&self, g: Marks, among: u32, a: usize, k: usize, j: usize) -> bool
+        requires { j < most_senders }
+        ensures { result ≡ backs self.now.names.now self.now.counts.now self.now.base (agreement_from g self.now.lengths.now) among a k j }
+    {
+        let at = place_of(self.base, j);
+        let blocks = usize::from(self.lengths[j]);
+        let has_log = message::store::is_prefix(self.names, self.counts, a, k, at, blocks);
+        (has(g.voters, j) & has(among, j)) & has_log
     }
-    n
+
+    // How many do. Kept as a sum over all, without a branch.
+    fn count_behind(&self, g: Marks, among: u32, a: usize, k: usize) -> usize
+        ensures { (result ≡ count most_senders
+            (backs self.now.names.now self.now.counts.now self.now.base (agreement_from g self.now.lengths.now) among a k)) × (result ≤ most_senders) }
+    {
+        let mut n = 0;
+        for j in 0..MOST_SENDERS {
+            n += usize::from(self.is_behind(g, among, a, k, j));
+        }
+        n
+    }
 }
 
 // How many support the log of k blocks at sender i's place, those of `among` being the ones that may. 0 where there is no such
@@ -126,9 +90,9 @@ pub fn supporters(
     if (MOST_SENDERS <= i as usize) | (MOST_BLOCKS < k as usize) {
         return 0;
     }
-    if lacks_room(names.len(), counts.len(), base) | is_over(lengths, MOST_BLOCKS) {
+    let Some(logs) = readable(names, counts, lengths, base) else {
         return 0;
-    }
+    };
     let a = place_of(base, i as usize);
-    count_behind(g, lengths, names, counts, base, among, a, k as usize)
+    logs.count_behind(g, among, a, k as usize)
 }

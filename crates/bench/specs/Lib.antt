@@ -14,6 +14,7 @@ pub mod History
 pub mod Record
 pub mod ByRecord
 -- What the code of the calls promises:
+pub mod Refusals
 pub mod Answers
 -- What an act reads, for whoever shows a schedule:
 pub mod Support

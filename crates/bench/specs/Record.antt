@@ -10,6 +10,7 @@ use Rattle.agreement.specs.Proposals.{Proposals, proposals_from, empty_proposals
 use Rattle.bench.specs.Layout.{is_even, out_of_range}
 use Rattle.bench.specs.Calendar.{last_beat}
 use Rattle.bench.specs.declared.Head.{Head}
+use Rattle.bench.specs.declared.Rows.{Rows}
 use Rattle.bench.specs.declared.Bench as struct
 
 -- What a record holds, as the definitions take it: a flag is a number, zero for no and any other for yes.
@@ -44,9 +45,13 @@ bench_from h even odd proposed priorities = record {
   parted = h.parted;
 }
 
+-- the same, with the arrays together
+abbrev pub bench_with : Head → Rows → Bench
+bench_with h r = bench_from h r.even r.odd r.proposed r.priorities
+
 -- the whole record, as it is handed in and given back
 abbrev pub bench_of : struct.Bench → Bench
-bench_of b = bench_from b.head b.even b.odd b.proposed b.priorities
+bench_of b = bench_with b.head b.rows
 
 -- Fresh, by n and own number: nothing filed, no beat begun, the decided log empty.
 abbrev pub fresh_bench : ℕ → ℕ → Bench

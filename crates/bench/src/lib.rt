@@ -2,8 +2,11 @@
 // proofs/; the code is crate calls.
 #![tactic(auto)]
 
-use agreement::{Grade, Marks, SPAN, Shown};
+mod refusal;
+
+use agreement::{Longest, Marks, SPAN, Shown};
 use message::{BLOCK_WIDTH, HEAD_LENGTH, LAST_VIEW, MOST_BLOCKS};
+pub use refusal::Refusal;
 
 // The numbers of specs/Layout.antt: where the logs of an odd view, the proposed logs and the decided log start in the lent lists, how
 // long these must be, and how many bytes the longest message has.
@@ -41,92 +44,52 @@ pub struct Head {
     pub shown: Shown,
 }
 
+// The arrays, with a place for each sender.
 #[repr(C)]
 #[derive(Clone, Copy)]
-pub struct Bench {
+pub struct Rows {
     // the priority of each sender's proposal, and the blocks of each log: in the agreements, and proposed
     pub priorities: [u64; 32],
-    pub head: Head,
     pub even: [u8; 32],
     pub odd: [u8; 32],
     pub proposed: [u8; 32],
 }
 
-// The answer of Open and of Begin; each refusal is by its number.
+#[repr(C)]
 #[derive(Clone, Copy)]
-pub enum Start {
-    Done,
-    Refused(u8),
+pub struct Bench {
+    pub rows: Rows,
+    pub head: Head,
 }
 
-// The answer of Receive.
+// A block offered to Act, of name zero where there is none, as document 01 has it, and the priority that a proposal of it has.
 #[derive(Clone, Copy)]
-pub enum Taken {
-    First,
-    Second,
-    Known,
-    Refused(u8),
+pub struct Offer {
+    pub name: u64,
+    pub priority: u64,
+    pub count: u16,
 }
 
-// The answer of Act: what it made, with its blocks. The message stands at the front of the outgoing buffer.
+// What an Act made, with its blocks. The message stands at the front of the outgoing buffer.
 #[derive(Clone, Copy)]
 pub enum Made {
     Nothing,
     Log(u8),
     Proposal(u8),
-    Refused(u8),
 }
 
-// The answer of Find: the place of the entry's block in the decided log, and the entry's place inside that block, both from 0.
+// Where an entry was found: the place of its block in the decided log, and its place inside that block, both from 0.
 #[derive(Clone, Copy)]
-pub enum Entry {
-    At(u8, u16),
-    Refused(u8),
-}
-
-// An answer, and the record afterwards.
-#[derive(Clone, Copy)]
-pub struct Started {
-    pub answer: Start,
-    pub bench: Bench,
-}
-
-#[derive(Clone, Copy)]
-pub struct Received {
-    pub answer: Taken,
-    pub bench: Bench,
-}
-
-#[derive(Clone, Copy)]
-pub struct Acted {
-    pub answer: Made,
-    pub bench: Bench,
-}
-
-// The same where the record is held in its parts: an answer, and the head afterwards.
-#[derive(Clone, Copy)]
-pub struct StartedHead {
-    pub answer: Start,
-    pub head: Head,
-}
-
-#[derive(Clone, Copy)]
-pub struct ReceivedHead {
-    pub answer: Taken,
-    pub head: Head,
-}
-
-#[derive(Clone, Copy)]
-pub struct ActedHead {
-    pub answer: Made,
-    pub head: Head,
+pub struct Entry {
+    pub block: u8,
+    pub inside: u16,
 }
 
 // A grade with its count, as an act reads it: the log it uses, and how many support it, or the empty log where there is none, among
 // how many senders.
 #[derive(Clone, Copy)]
 pub struct Counted {
-    pub grade: Grade,
+    pub grade: Option<Longest>,
     pub supporters: usize,
     pub senders: usize,
 }

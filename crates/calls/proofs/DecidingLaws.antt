@@ -1,40 +1,37 @@
 -- Deciding and the snapshots, case by case: what was found, and so what is left. Assumes nothing.
-use Prim.Native.Nat.{ℕ, ◌+◌, ◌-◌, ◌≤◌, ◌<◌}
+use Prim.Native.Nat.{ℕ, ◌+◌, ◌≤◌, ◌<◌}
 use native.Mathlib.Omega.{arith}
 use mathlib.Core.Bool.{Bool, true, false, ◌&&◌}
-use mathlib.Core.List.{List, []}
-use mathlib.Core.Option.{Option, some}
+use mathlib.Core.List.{List}
+use mathlib.Core.Option.{some}
 use mathlib.Core.Path.{◌≡◌, refl, sym, ap, ◌∙◌}
+use Rattle.std.specs.Prelude.{Some, None}
+use Rattle.std.specs.Prelude as std
 use borrow.Author.Tests.{le-leb}
 use lib.Dec.{leb}
-use lib.ListN.{length, drop}
+use lib.ListN.{length}
 use Rattle.message.specs.Choice.{pick}
 use Rattle.message.specs.Logs.{Log, is_prefix, counts_of}
-use Rattle.message.specs.Numbers.{put}
 use Rattle.message.proofs.PartLaws.{length-put}
 use Rattle.message.specs.Store.{log_at, within, prefix_at, Stores, copy_of}
 use Rattle.message.proofs.ListedLaws.{length_at_lem}
 use Rattle.message.proofs.Inside.{prefix_inside, stored_inside}
-use Rattle.agreement.specs.Limits.{place_of}
 use Rattle.agreement.specs.Record.{Agreement, agreement_from, one, two, snapped, with_snapshot}
-use Rattle.agreement.specs.Grades.{Gives}
 use Rattle.agreement.specs.declared.Marks.{Marks}
-use Rattle.agreement.specs.declared.Grade.{Grade}
-use Rattle.agreement.specs.declared.Grade.TheVariants.{Longest, Nothing}
-use Rattle.bench.specs.Layout.{is_even, logs_place, decided_place}
+use Rattle.bench.specs.Layout.{is_even, decided_place}
 use Rattle.bench.specs.Calendar.{last_view, deciding}
-use Rattle.bench.specs.Totals.{totals_from, unlike}
-use Rattle.bench.specs.Record.{Bench, bench_from, of_view, agreement_of, with_agreement}
+use Rattle.bench.specs.Record.{Bench, bench_with, of_view, agreement_of, with_agreement}
 use Rattle.bench.specs.ByRecord.{used_of, snapped_by}
 use Rattle.bench.specs.Answers.{core_with}
 use Rattle.bench.specs.declared.Head.{Head}
+use Rattle.bench.specs.declared.Rows.{Rows}
 use Rattle.bench.proofs.ActLaws.{settled_none, settled_extends, settled_stays, settled_parts, snapped_late, snapped_view}
 use Rattle.bench.proofs.TestedLaws.{before_within, decided_within, lists_roomy}
-use Rattle.calls.specs.Steps.{Decidable, Deciding, Settling, Settles, Decides, Snaps}
-use Rattle.calls.specs.TotalSteps.{decided_counts, Extensible}
+use Rattle.calls.specs.Steps.{found_log, Finds, Settling, Settles, Decides, Snaps}
+use Rattle.calls.specs.declared.seeing.Listed.{Listed}
+use Rattle.calls.specs.TotalSteps.{decided_counts}
 use Rattle.calls.proofs.TotalWalks.{extended_none, kept_counts}
-use Rattle.calls.proofs.FilingCases.{even_head, odd_head, read_even, read_odd, keep_even, keep_odd}
-use Rattle.calls.proofs.SeeingLaws.{used_whole, seen_none, seen_at}
+use Rattle.calls.proofs.FilingCases.{even_head, odd_head, even_rows, odd_rows, read_even, read_odd, keep_even, keep_odd}
 
 -- ---- the head after a decision
 
@@ -101,8 +98,8 @@ module _ (h : Head) (names counts : List ℕ) (a k : ℕ) (u : Settling h names 
           size = ap length w.1.1 ∙ length-put counts decided_place (counts_of newLog);
           kept = ap (λ (l : List ℕ). decided_counts l h.decided) w.1.1
               ∙ kept_counts names counts a k h.decided (sym extends_is ∙ t) (omega arith);
-          whole = λ x y p q.
-              rw (settled_extends (core_with (bench_from h x y p q) names counts) newLog (sym extends_is ∙ t))
+          whole = λ rows.
+              rw (settled_extends (core_with (bench_with h rows) names counts) newLog (sym extends_is ∙ t))
               (record { bench = rw (length_at_lem names counts a k); name_list = w.1.0; count_list = w.1.1 });
         }
 
@@ -116,8 +113,8 @@ module _ (h : Head) (names counts : List ℕ) (a k : ℕ) (u : Settling h names 
         short = u.decidable.short;
         size = refl;
         kept = refl;
-        whole = λ x y p q.
-            rw (settled_stays (core_with (bench_from h x y p q) names counts) newLog (sym extends_is ∙ f) (sym covered_is ∙ t))
+        whole = λ rows.
+            rw (settled_stays (core_with (bench_with h rows) names counts) newLog (sym extends_is ∙ f) (sym covered_is ∙ t))
             (record { bench = refl; name_list = refl; count_list = refl });
       }
 
@@ -127,80 +124,52 @@ module _ (h : Head) (names counts : List ℕ) (a k : ℕ) (u : Settling h names 
         short = u.decidable.short;
         size = refl;
         kept = refl;
-        whole = λ x y p q.
-            rw (settled_parts (core_with (bench_from h x y p q) names counts) newLog (sym extends_is ∙ f) (sym covered_is ∙ t))
+        whole = λ rows.
+            rw (settled_parts (core_with (bench_with h rows) names counts) newLog (sym extends_is ∙ f) (sym covered_is ∙ t))
             (record { bench = refl; name_list = refl; count_list = refl });
       }
 
 -- ---- the decision, where the grade gives one
 
-module _ (h : Head) (e o names counts : List ℕ) (v : ℕ) (r : Grade)
-    (w : Gives (used_of (core_with (bench_from h e o [] []) names counts) v deciding) names counts (logs_place (v - 1)) r) where
-  given : (p q : List ℕ) → Gives (used_of (core_with (bench_from h e o p q) names counts) v deciding) names counts (logs_place (v - 1)) r
-  given p q = record { log = w.log ∙ used_whole h e o p q names counts v deciding; placed = w.placed }
-
-  -- settle asks that it ends before the decided log's place
-  pub decision_settling : (i k at : ℕ) → r ≡ Longest i k → at ≡ place_of (logs_place (v - 1)) i → Decidable h names counts
-      → Settling h names counts at k
-  decision_settling i k at t p d = record { decidable = d; before = (seen_at _ names counts v r w i k at t p).before }
-
-  pub decide_none : (totals : List ℕ) → r ≡ Nothing → Decides h e o names counts totals v h names counts totals
+module _ (h : Head) (rows : Rows) (names counts : List ℕ) (v : ℕ) (r : std.Option Listed)
+    (f : Finds (used_of (core_with (bench_with h rows) names counts) v deciding) names counts r) where
+  pub decide_none : (totals : List ℕ) → r ≡ None → Decides h rows names counts totals v h names counts totals
   decide_none totals t = record {
     total_list = extended_none counts totals h.decided h.decided (omega arith);
-    whole = λ p q.
-        rw (← (seen_none _ names counts v r (given p q) t).log, settled_none) (record { bench = refl; name_list = refl; count_list = refl });
+    core = rw (sym f.log ∙ ap (found_log names counts) t, settled_none) (record { bench = refl; name_list = refl; count_list = refl });
   }
-
-  pub decide_some : (i k at : ℕ) (c : Head) (ns cs totals ts : List ℕ) → r ≡ Longest i k → at ≡ place_of (logs_place (v - 1)) i
-      → Settles h names counts (some (log_at names counts at k)) c ns cs
-      → ts ≡ put totals h.decided (drop h.decided (totals_from 0 (decided_counts cs c.decided)))
-      → Decides h e o names counts totals v c ns cs ts
-  decide_some i k at c ns cs totals ts t p l x = record {
-    total_list = x;
-    whole = λ y z. rw (← (seen_at _ names counts v r (given y z) i k at t p).log) (l.whole e o y z);
-  }
-
--- the totals of what stood stand beside the counts as they are now
-pub decision_extensible : (h c : Head) (names counts totals ns cs : List ℕ) (o : Option Log) → Deciding h names counts totals
-    → Settles h names counts o c ns cs → Extensible cs totals h.decided c.decided
-decision_extensible h c names counts totals ns cs o d s =
-    let n = s.size in
-    let m = (lists_roomy names counts d.decidable.lists).1 in
-    record {
-      right = ap (λ (ks : List ℕ). unlike (totals_from 0 ks) totals) s.kept ∙ d.right;
-      walkable = record { short = s.short; count_room = omega arith; total_room = d.room };
-    }
 
 -- ---- snapshots
 
-module _ (h : Head) (e o : List ℕ) (v : ℕ) (second : Bool) where
-  -- past the last view none is taken
-  pub snap_past : last_view < v → Snaps h e o v second h e o
-  snap_past l = record { whole = λ p q names counts. sym (snapped_late _ v (core_with (bench_from h e o p q) names counts) l) }
+module _ (h : Head) (rows : Rows) (v : ℕ) (second : Bool) where
+  abbrev b : Bench
+  b = bench_with h rows
 
-  taken : (m m' : Marks) (ls : List ℕ) (b c : Bench) → v ≤ last_view → agreement_from m ls ≡ agreement_of b v
+  -- past the last view none is taken
+  pub snap_past : last_view < v → Snaps h rows v second h rows
+  snap_past l = record { whole = λ names counts. sym (snapped_late _ v (core_with b names counts) l) }
+
+  taken : (m m' : Marks) (ls : List ℕ) (c : Bench) → v ≤ last_view → agreement_from m ls ≡ agreement_of b v
       → m' ≡ snapped (pick second two one) m
       → ((g : Agreement) → agreement_from m' ls ≡ g → c ≡ with_agreement b v g)
       → (names counts : List ℕ) → core_with c names counts ≡ snapped_by (pick second two one) v (core_with b names counts)
-  taken m m' ls b c l g s kept names counts =
+  taken m m' ls c l g s kept names counts =
       ap (λ (x : Bench). core_with x names counts)
       (kept (with_snapshot (pick second two one) (agreement_of b v))
       ((λ i. agreement_from (s i) ls) ∙ ap (with_snapshot (pick second two one)) g))
       ∙ sym (snapped_view (pick second two one) v (core_with b names counts) l)
 
   module _ (x : Bool) (y : x ≡ is_even v) (m m' : Marks) (ls : List ℕ) (l : v ≤ last_view) (s : m' ≡ snapped (pick second two one) m) where
-    pub snap_even : x ≡ true → agreement_from m ls ≡ of_view (agreement_from h.even e) v → Snaps h e o v second (even_head h m') ls o
+    pub snap_even : x ≡ true → agreement_from m ls ≡ of_view (agreement_from h.even rows.even) v
+        → Snaps h rows v second (even_head h m') (even_rows rows ls)
     snap_even t g = record {
-      whole = λ p q names counts.
-          let b = bench_from h e o p q in
-          taken m m' ls b (bench_from (even_head h m') ls o p q) l (g ∙ read_even x v y b t) s
-          (keep_even x v y b t (agreement_from m' ls)) names counts;
+      whole = taken m m' ls (bench_with (even_head h m') (even_rows rows ls)) l (g ∙ read_even x v y b t) s
+          (keep_even x v y b t (agreement_from m' ls));
     }
 
-    pub snap_odd : x ≡ false → agreement_from m ls ≡ of_view (agreement_from h.odd o) v → Snaps h e o v second (odd_head h m') e ls
+    pub snap_odd : x ≡ false → agreement_from m ls ≡ of_view (agreement_from h.odd rows.odd) v
+        → Snaps h rows v second (odd_head h m') (odd_rows rows ls)
     snap_odd t g = record {
-      whole = λ p q names counts.
-          let b = bench_from h e o p q in
-          taken m m' ls b (bench_from (odd_head h m') e ls p q) l (g ∙ read_odd x v y b t) s
-          (keep_odd x v y b t (agreement_from m' ls)) names counts;
+      whole = taken m m' ls (bench_with (odd_head h m') (odd_rows rows ls)) l (g ∙ read_odd x v y b t) s
+          (keep_odd x v y b t (agreement_from m' ls));
     }

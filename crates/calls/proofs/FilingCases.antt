@@ -2,38 +2,27 @@
 use Prim.Native.Nat.{ℕ}
 use mathlib.Core.Bool.{Bool, true, false}
 use mathlib.Core.List.{List}
-use mathlib.Core.Path.{◌≡◌, sym, ap, subst, ◌∙◌, refl}
-use Rattle.agreement.specs.Filing.{Files, file_of, word_of, marked_by, LogStored}
+use mathlib.Core.Path.{◌≡◌, sym, ap, subst, ◌∙◌}
+use Rattle.std.specs.Prelude.{Ok}
+use Rattle.agreement.specs.Filing.{Files, file_of}
 use Rattle.agreement.specs.Limits.{span}
 use Rattle.agreement.specs.Record.{Agreement, agreement_from}
 use Rattle.agreement.specs.Proposals.{Proposals, proposals_from, FilesProposal, file_proposal_of}
 use Rattle.agreement.specs.declared.Marks.{Marks}
 use Rattle.agreement.specs.declared.Shown.{Shown}
 use Rattle.agreement.specs.declared.Answer.{Answer}
-use Rattle.agreement.specs.declared.Answer.TheVariants as words
-use Rattle.agreement.specs.declared.Filed.{Filed}
-use Rattle.agreement.specs.declared.FiledProposal.{FiledProposal}
-use Rattle.agreement.proofs.FileCases.{filed_by}
+use Rattle.agreement.specs.declared.Given.{Given}
 use Rattle.bench.specs.Layout.{is_even, logs_place, proposals_place}
 use Rattle.bench.specs.Calls.{took}
-use Rattle.bench.specs.Record.{Bench, bench_from, of_view, agreement_of, proposed_in, proposals_of, with_agreement, with_proposals}
-use Rattle.bench.specs.ByRecord.{file_log, taken}
-use Rattle.bench.specs.Answers.{core_with, taken_reply}
+use Rattle.bench.specs.Record.{Bench, bench_with, of_view, agreement_of, proposed_in, proposals_of, with_agreement, with_proposals}
+use Rattle.bench.specs.ByRecord.{file_log, file_proposal, taken}
+use Rattle.bench.specs.Answers.{core_with}
 use Rattle.bench.specs.declared.Head.{Head}
-use Rattle.bench.specs.declared.Taken.{Taken}
-use Rattle.bench.specs.declared.Taken.TheVariants as takings
-use Rattle.bench.proofs.Replies.{taken_first, taken_second, taken_known}
+use Rattle.bench.specs.declared.Rows.{Rows}
+use Rattle.bench.proofs.Replies.{taken_word}
 use Rattle.bench.proofs.Slots.{with_slots, agreement_even, agreement_odd, proposals_slot, stored_even, stored_odd}
-use Rattle.calls.specs.Steps.{ProposalFiled, EvenFiled, OddFiled, TakeGives}
-
-pub word_first : (a : Answer) → a ≡ words.First → taken_reply takings.First ≡ took (word_of a)
-word_first a e = rw e taken_first
-
-pub word_second : (a : Answer) → a ≡ words.Second → taken_reply takings.Second ≡ took (word_of a)
-word_second a e = rw e taken_second
-
-pub word_known : (a : Answer) → a ≡ words.Known → taken_reply takings.Known ≡ took (word_of a)
-word_known a e = rw e taken_known
+use Rattle.calls.specs.Steps.{TakeGives}
+use Rattle.calls.proofs.RecordCases.{place_even, place_odd}
 
 -- ---- the head with another agreement, or other proposals
 
@@ -79,6 +68,17 @@ shown_head h m = record {
   shown = m;
 }
 
+-- ---- the rows with other blocks in one of them
+
+abbrev pub even_rows : Rows → List ℕ → Rows
+even_rows r lengths = record { priorities = r.priorities; even = lengths; odd = r.odd; proposed = r.proposed }
+
+abbrev pub odd_rows : Rows → List ℕ → Rows
+odd_rows r lengths = record { priorities = r.priorities; even = r.even; odd = lengths; proposed = r.proposed }
+
+abbrev shown_rows : Rows → List ℕ → List ℕ → Rows
+shown_rows r lengths priorities = record { priorities = priorities; even = r.even; odd = r.odd; proposed = lengths }
+
 -- ---- by the parity of the view: what is read of the record, and what is stored
 
 module _ (r : Bool) (v : ℕ) (q : r ≡ is_even v) (b : Bench) where
@@ -96,81 +96,57 @@ module _ (r : Bool) (v : ℕ) (q : r ≡ is_even v) (b : Bench) where
 
 -- ---- a LOG
 
--- the place of the logs, by the parity of the view
-place_even : (v : ℕ) → is_even v ≡ true → 0 ≡ logs_place v
-place_even v t = rw t
+module _ (h : Head) (rows : Rows) (names counts bytes : List ℕ) (v i : ℕ) where
+  abbrev b : Bench
+  b = bench_with h rows
 
-place_odd : (v : ℕ) → is_even v ≡ false → span ≡ logs_place v
-place_odd v t = rw t
+  module _ (ls ns cs : List ℕ) where
+    -- by the parity of the view
+    module _ (r : Bool) (q : r ≡ is_even v) (f : Given Answer Marks) where
+      log_filed : (g : Agreement) (c : Bench) (base : ℕ) → base ≡ logs_place v → g ≡ agreement_of b v
+          → Files (file_of g names counts base bytes i) f ls ns cs
+          → ((x : Agreement) → agreement_from f.after ls ≡ x → c ≡ with_agreement b v x)
+          → TakeGives (taken (file_log (core_with b names counts) bytes v i)) (Ok f.answer) c ns cs
+      log_filed g c base at o d kept =
+          let x : Files (file_of (agreement_of b v) names counts (logs_place v) bytes i) f ls ns cs =
+          subst (λ (y : Agreement). Files (file_of y names counts (logs_place v) bytes i) f ls ns cs) o
+          (subst (λ (p : ℕ). Files (file_of g names counts p bytes i) f ls ns cs) at d) in
+          record {
+            answered = taken_word f.answer ∙ ap took x.answered;
+            bench = kept _ (λ j. record { marks = x.marks j; lengths = x.length_list j });
+            name_list = x.name_list;
+            count_list = x.count_list;
+          }
 
--- in a slot, once what it holds of another view is gone
-module _ (names counts bytes : List ℕ) (v i : ℕ) (m k : Marks) (ls : List ℕ) (a : Answer) (w : Taken)
-    (answered : taken_reply w ≡ took (word_of a)) (ls' ns cs : List ℕ)
-    (marked : k ≡ marked_by m a i) where
-  abbrev f : Filed
-  f = record { answer = a; marks = k }
+      pub filed_even : r ≡ true → Files (file_of (of_view (agreement_from h.even rows.even) v) names counts 0 bytes i) f ls ns cs
+          → TakeGives (taken (file_log (core_with b names counts) bytes v i)) (Ok f.answer)
+          (bench_with (even_head h f.after) (even_rows rows ls)) ns cs
+      filed_even t d =
+          log_filed _ (bench_with (even_head h f.after) (even_rows rows ls)) 0 (place_even r v q t)
+          (read_even r v q b t) d (keep_even r v q b t (agreement_from f.after ls))
 
-  log_filed : (g : Agreement) (b c : Bench) (base : ℕ) → base ≡ logs_place v → agreement_from m ls ≡ of_view g v → of_view g v ≡ agreement_of b v
-      → LogStored m.voters m.equivocators ls names counts base bytes i a ls' ns cs
-      → ((x : Agreement) → agreement_from k ls' ≡ x → c ≡ with_agreement b v x)
-      → TakeGives (taken (file_log (core_with b names counts) bytes v i)) w c ns cs
-  log_filed g b c base at e o d kept =
-      let x : Files (file_of (agreement_of b v) names counts (logs_place v) bytes i) f ls' ns cs =
-      subst (λ (y : Agreement). Files (file_of y names counts (logs_place v) bytes i) f ls' ns cs) (e ∙ o)
-      (subst (λ (p : ℕ). Files (file_of (agreement_from m ls) names counts p bytes i) f ls' ns cs) at
-      (filed_by m k ls names counts base bytes i a ls' ns cs d marked)) in
-      record {
-        answered = answered ∙ ap took x.answered;
-        bench = kept _ (λ j. record { marks = x.marks j; lengths = x.length_list j });
-        name_list = x.name_list;
-        count_list = x.count_list;
-      }
+      pub filed_odd : r ≡ false → Files (file_of (of_view (agreement_from h.odd rows.odd) v) names counts span bytes i) f ls ns cs
+          → TakeGives (taken (file_log (core_with b names counts) bytes v i)) (Ok f.answer)
+          (bench_with (odd_head h f.after) (odd_rows rows ls)) ns cs
+      filed_odd t d =
+          log_filed _ (bench_with (odd_head h f.after) (odd_rows rows ls)) span (place_odd r v q t)
+          (read_odd r v q b t) d (keep_odd r v q b t (agreement_from f.after ls))
 
-  module _ (h : Head) where
-    pub filed_even : (e : List ℕ) → agreement_from m ls ≡ of_view (agreement_from h.even e) v
-        → LogStored m.voters m.equivocators ls names counts 0 bytes i a ls' ns cs
-        → EvenFiled h e names counts bytes v i (record { answer = w; head = even_head h k }) ls' ns cs
-    filed_even e g d = record {
-      whole = λ t o. record {
-        whole = λ p s.
-            let b = bench_from h e o p s in
-            log_filed (agreement_from h.even e) b (bench_from (even_head h k) ls' o p s) 0 (place_even v t) g
-            (read_even true v (sym t) b refl) d
-            (keep_even true v (sym t) b refl (agreement_from k ls'));
-      };
-    }
+    -- ---- a PROPOSAL
 
-    pub filed_odd : (o : List ℕ) → agreement_from m ls ≡ of_view (agreement_from h.odd o) v
-        → LogStored m.voters m.equivocators ls names counts span bytes i a ls' ns cs
-        → OddFiled h o names counts bytes v i (record { answer = w; head = odd_head h k }) ls' ns cs
-    filed_odd o g d = record {
-      whole = λ t e. record {
-        whole = λ p s.
-            let b = bench_from h e o p s in
-            log_filed (agreement_from h.odd o) b (bench_from (odd_head h k) e ls' p s) span (place_odd v t) g
-            (read_odd false v (sym t) b refl) d
-            (keep_odd false v (sym t) b refl (agreement_from k ls'));
-      };
-    }
-
--- ---- a PROPOSAL
-
-module _ (h : Head) (p q names counts bytes : List ℕ) (v i priority : ℕ) (m : Shown) (f : FiledProposal)
-    (w : Taken) (answered : taken_reply w ≡ took (word_of f.answer)) (ls ps ls' ps' ns cs : List ℕ)
-    (d : FilesProposal (file_proposal_of (proposals_from m ls ps) names counts proposals_place bytes i priority) f ls' ps' ns cs) where
-  pub filed_proposal : proposals_from m ls ps ≡ proposed_in (proposals_from h.shown p q) v
-      → ProposalFiled h p q names counts bytes v i priority (record { answer = w; head = shown_head h f.marks }) ls' ps' ns cs
-  filed_proposal g = record {
-    whole = λ e o.
-        let b = bench_from h e o p q in
-        let x : FilesProposal (file_proposal_of (proposals_of b v) names counts proposals_place bytes i priority) f ls' ps' ns cs =
-        subst (λ (a : Proposals). FilesProposal (file_proposal_of a names counts proposals_place bytes i priority) f ls' ps' ns cs)
-        (g ∙ sym (proposals_slot b v)) d in
-        record {
-          answered = answered ∙ ap took x.answered;
-          bench = ap {A = Proposals} {B = Bench} (with_proposals b)
-              (λ j. record { marks = x.marks j; lengths = x.length_list j; priorities = x.priority_list j });
-          name_list = x.name_list;
-          count_list = x.count_list;
-        };
-  }
+    module _ (priority : ℕ) (m : Shown) (f : Given Answer Shown) (lengths ps ps' : List ℕ)
+        (d : FilesProposal (file_proposal_of (proposals_from m lengths ps) names counts proposals_place bytes i priority) f ls ps' ns cs) where
+      pub filed_proposal : proposals_from m lengths ps ≡ proposed_in (proposals_from h.shown rows.proposed rows.priorities) v
+          → TakeGives (taken (file_proposal (core_with b names counts) bytes v i priority)) (Ok f.answer)
+          (bench_with (shown_head h f.after) (shown_rows rows ls ps')) ns cs
+      filed_proposal g =
+          let x : FilesProposal (file_proposal_of (proposals_of b v) names counts proposals_place bytes i priority) f ls ps' ns cs =
+          subst (λ (a : Proposals). FilesProposal (file_proposal_of a names counts proposals_place bytes i priority) f ls ps' ns cs)
+          (g ∙ sym (proposals_slot b v)) d in
+          record {
+            answered = taken_word f.answer ∙ ap took x.answered;
+            bench = ap {A = Proposals} {B = Bench} (with_proposals b)
+                (λ j. record { marks = x.marks j; lengths = x.length_list j; priorities = x.priority_list j });
+            name_list = x.name_list;
+            count_list = x.count_list;
+          }

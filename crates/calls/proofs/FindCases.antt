@@ -1,11 +1,12 @@
 -- Find, case by case, as the code finds it: its refusals, and the walk along the totals against the counts of the decided log. Assumes
 -- nothing.
-use Prim.Native.Nat.{ℕ, suc, ◌+◌, ◌-◌, ◌^◌, ◌≤◌, ◌<◌}
+use Prim.Native.Nat.{ℕ, suc, ◌+◌, ◌-◌, ◌^◌, ◌≤◌}
 use native.Mathlib.Omega.{arith}
 use mathlib.Core.Bool.{Bool, true, false}
 use mathlib.Core.List.{List, [], ◌∷◌, ◌++◌}
 use mathlib.Core.Logic.{inl}
 use mathlib.Core.Path.{◌≡◌, refl, sym, ap, ◌∙◌}
+use Rattle.std.specs.Prelude.{Result, Ok, Err}
 use borrow.Author.Tests.{lt-ltb, le-ltb, le-leb, lt-leb, leb-true, leb-false, ltb-true, ltb-false}
 use lib.Dec.{leb, ltb}
 use lib.ListN.{get_or, take}
@@ -22,21 +23,24 @@ use Rattle.bench.specs.Layout.{decided_place, short_lists}
 use Rattle.bench.specs.Totals.{totals_from, sum_of, entries_in, block_holding, inside_block}
 use Rattle.bench.specs.Calls.{Reply, refused, found, State, core_of, found_in}
 use Rattle.bench.specs.Causes.{find_causes}
-use Rattle.bench.specs.Record.{bench_from}
+use Rattle.bench.specs.Record.{bench_from, bench_with}
 use Rattle.bench.specs.ByRecord.{wrong_totals, decided_log, record_causes, find_rows, find_of}
 use Rattle.bench.specs.Answers.{held_with, entry_reply, FindGives}
 use Rattle.bench.specs.declared.Head.{Head}
+use Rattle.bench.specs.declared.Rows.{Rows}
 use Rattle.bench.specs.declared.Entry.{Entry}
-use Rattle.bench.specs.declared.Entry.TheVariants as entries
+use Rattle.bench.specs.Refusals.{refusal_number}
+use Rattle.bench.specs.declared.refusal.Refusal.{Refusal}
+use Rattle.bench.specs.declared.refusal.Refusal.TheVariants as refusals
+use Rattle.bench.proofs.LimitLaws.{beyond_priorities}
 use Rattle.bench.proofs.Refusals.{find_reply, find_held, served_past}
 use Rattle.bench.proofs.Replies.{entry_at, entry_refused}
 use Rattle.bench.proofs.TotalLaws.{totals_none, totals_more, length_totals, alike}
 use Rattle.bench.proofs.TotalSteps.{next_total, sum_none, sum_more, block_more, inside_more}
 use Rattle.calls.specs.TotalSteps.{decided_counts, Rising, entry_among}
 use Rattle.calls.specs.Steps.{Judges, Deciding}
-use Rattle.calls.proofs.LimitCases.{beyond_of}
 use Rattle.calls.proofs.TotalWalks.{taken-part, among_none, among_more}
-use Rattle.calls.proofs.RefusalCases.{in_front, served_deciding}
+use Rattle.calls.proofs.RefusalCases.{in_front, refused_by, served_by, served_deciding}
 
 -- ---- the walk along the totals, against the counts
 
@@ -58,7 +62,7 @@ walked : (i b : ℕ) (ks : List ℕ) (e : ℕ) → b ≤ e → entry_reply (entr
 walked i b [] e h =
     ap (λ (l : List ℕ). entry_reply (entry_among i b l e)) (totals_none b)
     ∙ ap entry_reply (among_none i b e)
-    ∙ entry_refused 23
+    ∙ entry_refused refusals.NoEntry
     ∙ sym (ap (λ (n : ℕ). pick (leb n (e - b)) (refused 23) (found (i + block_holding [] (e - b)) (inside_block [] (e - b)))) sum_none
     ∙ ap (λ (t : Bool). pick t (refused 23) (found (i + block_holding [] (e - b)) (inside_block [] (e - b))))
     (le-leb 0 (e - b) (omega arith)))
@@ -71,7 +75,7 @@ walked i b (k ∷ ks) e h =
     let far : leb (sum_of (k ∷ ks)) (e - b) ≡ false = let s = sum_more k ks in lt-leb (sum_of (k ∷ ks)) (e - b) (omega arith) in
     let near : ltb (e - b) k ≡ true = lt-ltb (e - b) k (omega arith) in
     let z : i ≡ i + 0 = omega arith in
-    rw (t, far, block_more, inside_more, near) (entry_at i (e - b) ∙ ap (λ (n : ℕ). found n (e - b)) z))
+    rw (t, far, block_more, inside_more, near) (entry_at (record { block = i; inside = e - b }) ∙ ap (λ (n : ℕ). found n (e - b)) z))
     (λ t.
     let l = ltb-false e (b + k) t in
     let far : leb (sum_of (k ∷ ks)) (e - b) ≡ leb (sum_of ks) (e - (b + k)) =
@@ -131,12 +135,13 @@ judged_find L x =
     (λ t. judged_refused refused (found_in L x) (find_causes L x) 23 (first_failure_lem (find_causes L x) 23 (inl (t, refl))) ∙ rw t)
     (λ t. judged_done refused (found_in L x) (find_causes L x) (no_failure (find_causes L x) (t, tt)) ∙ rw t)
 
-module _ (h : Head) (e o p names counts totals : List ℕ) (r : ℕ) (j : Judges h e o p names counts totals r) where
+module _ (h : Head) (rows : Rows) (names counts totals : List ℕ) (r : Result (Unit {0}) Refusal)
+    (j : Judges (held_with (bench_with h rows) names counts totals) r) where
   abbrev held : State
-  held = held_with (bench_from h e o p []) names counts totals
+  held = held_with (bench_with h rows) names counts totals
 
   -- nothing is written
-  gives : (x : ℕ) (a : Entry) → entry_reply a ≡ (find_of held x).answer.reply → FindGives (find_of held x) a names counts totals
+  gives : (x : ℕ) (a : Result Entry Refusal) → entry_reply a ≡ (find_of held x).answer.reply → FindGives (find_of held x) a names counts totals
   gives x a y =
       let f = sym (find_held held x) in
       record {
@@ -146,32 +151,35 @@ module _ (h : Head) (e o p names counts totals : List ℕ) (r : ℕ) (j : Judges
         total_list = ap (λ (s : State). s.lent.totals) f;
       }
 
-  pub find_refused : (x : ℕ) → 0 < r → FindGives (find_of held x) (entries.Refused r) names counts totals
-  find_refused x l =
+  pub find_refused : (x : ℕ) (why : Refusal) → r ≡ Err why → FindGives (find_of held x) (Err why) names counts totals
+  find_refused x why e =
       let L = decided_log (core_of held) in
-      gives x (entries.Refused r)
-      (entry_refused r
+      gives x (Err why)
+      (entry_refused why
       ∙ sym (find_reply held x
-      ∙ judged_refused refused (found_in L x) (find_rows held x) r (in_front (record_causes held) (find_causes L x) r (j.refuses [] l))))
+      ∙ judged_refused refused (found_in L x) (find_rows held x) (refusal_number why)
+      (in_front (record_causes held) (find_causes L x) (refusal_number why) (refused_by held r j why e))))
 
-  module _ (y : r ≤ 0) where
+  module _ (u : Unit {0}) (y : r ≡ Ok u) where
     pub find_rising : AllBelow (2 ^ 16) counts → Rising totals h.decided
-    find_rising below = rises h names counts totals (served_deciding h e o p names counts totals [] (j.serves [] y)) below
+    find_rising below = rises h names counts totals (served_deciding h rows names counts totals (served_by held r j u y)) below
 
-    pub finds : (x : ℕ) (a : Entry) → a ≡ entry_among 0 0 (part totals 0 h.decided) x → FindGives (find_of held x) a names counts totals
+    pub finds : (x : ℕ) (a : Result Entry Refusal) → a ≡ entry_among 0 0 (part totals 0 h.decided) x
+        → FindGives (find_of held x) a names counts totals
     finds x a f =
-        let s = j.serves [] y in
+        let s = served_by held r j u y in
         let L = decided_log (core_of held) in
         gives x a
         (ap entry_reply f
-        ∙ walk_reply h names counts totals (served_deciding h e o p names counts totals [] s) x
+        ∙ walk_reply h names counts totals (served_deciding h rows names counts totals s) x
         ∙ sym (find_reply held x
         ∙ served_past refused (found_in L x) held (find_causes L x) s
         ∙ judged_find L x
         ∙ ap (λ (ks : List ℕ). reply_in ks x) (counts_at names counts decided_place h.decided)))
 
--- the same of the whole record: its priorities do not matter
-pub find_whole : (h : Head) (e o p q names counts totals : List ℕ) (x : ℕ) (a : Entry) (ns cs ts : List ℕ)
+-- ---- priorities do not matter to it
+
+pub find_whole : (h : Head) (e o p q names counts totals : List ℕ) (x : ℕ) (a : Result Entry Refusal) (ns cs ts : List ℕ)
     → FindGives (find_of (held_with (bench_from h e o p []) names counts totals) x) a ns cs ts
     → FindGives (find_of (held_with (bench_from h e o p q) names counts totals) x) a ns cs ts
 find_whole h e o p q names counts totals x a ns cs ts w =
@@ -179,7 +187,8 @@ find_whole h e o p q names counts totals x a ns cs ts w =
     let t = held_with (bench_from h e o p q) names counts totals in
     let L = decided_log (core_of s) in
     let same : find_rows s x ≡ find_rows t x =
-    ap (λ (b : Bool). by 9 b ∷ (by 8 (short_lists s.lent) ∷ by 9 (wrong_totals s) ∷ find_causes L x)) (beyond_of h e o p q) in
+    ap (λ (b : Bool). by 9 b ∷ (by 8 (short_lists s.lent) ∷ by 9 (wrong_totals s) ∷ find_causes L x))
+    (beyond_priorities (bench_from h e o p []) q) in
     let f = find_held s x in
     let g = sym (find_held t x) in
     record {

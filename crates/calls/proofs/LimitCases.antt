@@ -2,7 +2,7 @@
 use Prim.Native.Nat.{ℕ, ◌+◌}
 use lib.Bits.{bit_or}
 use mathlib.Core.Bool.{Bool, true, false, not, ◌&&◌, ◌||◌}
-use mathlib.Core.List.{List, []}
+use mathlib.Core.List.{List}
 use mathlib.Core.Path.{◌≡◌, refl, sym, ap, ◌∙◌}
 use lib.Dec.{ltb, leb}
 use lib.ListN.{get_or}
@@ -16,9 +16,10 @@ use Rattle.agreement.specs.declared.Shown.{Shown}
 use Rattle.agreement.proofs.MaskLaws.{member_or}
 use Rattle.bench.specs.Layout.{out_of_range}
 use Rattle.bench.specs.Calendar.{last_beat}
-use Rattle.bench.specs.Record.{bench_from, any_place, names_beyond, too_long, bad_sender, beyond_agreement, beyond_proposals, beyond}
+use Rattle.bench.specs.Record.{bench_with, any_place, names_beyond, too_long, bad_sender, beyond_agreement, beyond_proposals, beyond}
 use Rattle.bench.specs.declared.Head.{Head}
-use Rattle.bench.proofs.LimitLaws.{any_place_lem, any_or, any_cong, agreement_causes, proposals_causes, beyond-causes, beyond_priorities}
+use Rattle.bench.specs.declared.Rows.{Rows}
+use Rattle.bench.proofs.LimitLaws.{any_place_lem, any_or, any_cong, agreement_causes, proposals_causes, beyond-causes}
 use Rattle.calls.specs.Steps.{outside, bad_sets}
 
 -- ---- sets asked together
@@ -115,12 +116,12 @@ module _ (n : ℕ) (m : Shown) where
       ≡ (ltb last_view m.view || (any_place (names_beyond n m.filed) || any_place (names_beyond n m.aside)))
   beyond_shown b f = ap (λ (t : Bool). ltb last_view m.view || t) (reaches_both n m.filed m.aside b f)
 
-  beyond_proposals_lem : (lengths : List ℕ)
-      → beyond_proposals n (proposals_from m lengths [])
+  beyond_proposals_lem : (lengths priorities : List ℕ)
+      → beyond_proposals n (proposals_from m lengths priorities)
       ≡ (ltb last_view m.view ||
       (any_place (too_long lengths) || (any_place (names_beyond n m.filed) || any_place (names_beyond n m.aside))))
-  beyond_proposals_lem lengths =
-      proposals_causes n (proposals_from m lengths [])
+  beyond_proposals_lem lengths priorities =
+      proposals_causes n (proposals_from m lengths priorities)
       ∙ ap (λ (t : Bool). ltb last_view m.view || t)
       (any_or (too_long lengths) _
       ∙ ap (λ (t : Bool). any_place (too_long lengths) || t) (any_or (names_beyond n m.filed) (names_beyond n m.aside)))
@@ -144,30 +145,26 @@ lengths_first false false true false false false false true g = refl
 lengths_first false false true false false false false false g = refl
 lengths_first false false false a b c d f g = refl
 
-pub beyond_limits : (h : Head) (e o p : List ℕ) (range long even odd proposals : Bool) → range ≡ out_of_range h.n h.own
-    → long ≡ (ltb 0 (count most_senders (λ (i : ℕ). ltb most_blocks (get_or e i 0)))
-    || (ltb 0 (count most_senders (λ (i : ℕ). ltb most_blocks (get_or o i 0))) || ltb 0
-    (count most_senders (λ (i : ℕ). ltb most_blocks (get_or p i 0)))))
+pub beyond_limits : (h : Head) (rows : Rows) (range long even odd proposals : Bool) → range ≡ out_of_range h.n h.own
+    → long ≡ (ltb 0 (count most_senders (λ (i : ℕ). ltb most_blocks (get_or rows.even i 0)))
+    || (ltb 0 (count most_senders (λ (i : ℕ). ltb most_blocks (get_or rows.odd i 0))) || ltb 0
+    (count most_senders (λ (i : ℕ). ltb most_blocks (get_or rows.proposed i 0)))))
     → even ≡ (ltb last_view h.even.view || bad_sets h.n h.even) → odd ≡ (ltb last_view h.odd.view || bad_sets h.n h.odd)
     → proposals ≡ (ltb last_view h.shown.view ||
     (any_place (names_beyond h.n h.shown.filed) || any_place (names_beyond h.n h.shown.aside)))
     → (range || (ltb (last_beat + 1) h.next || (ltb most_blocks h.decided || (long || (even || (odd || proposals)))))) ≡ beyond
-    (bench_from h e o p [])
-beyond_limits h e o p range long even odd proposals a l b c d =
+    (bench_with h rows)
+beyond_limits h rows range long even odd proposals a l b c d =
     let all : (long || (even || (odd || proposals)))
-    ≡ (beyond_agreement h.n (agreement_from h.even e) ||
-    (beyond_agreement h.n (agreement_from h.odd o) || beyond_proposals h.n (proposals_from h.shown p []))) =
+    ≡ (beyond_agreement h.n (agreement_from h.even rows.even) ||
+    (beyond_agreement h.n (agreement_from h.odd rows.odd) || beyond_proposals h.n (proposals_from h.shown rows.proposed rows.priorities))) =
     (λ i.
-    (l ∙ (λ j. sym (any_place_lem (too_long e)) j || (sym (any_place_lem (too_long o)) j || sym (any_place_lem (too_long p)) j))) i ||
+    (l ∙ (λ j. sym (any_place_lem (too_long rows.even)) j || (sym (any_place_lem (too_long rows.odd)) j || sym (any_place_lem (too_long rows.proposed)) j))) i ||
     (b i || (c i || d i)))
-    ∙ lengths_first (any_place (too_long e)) (any_place (too_long o)) (any_place (too_long p)) (ltb last_view h.even.view)
+    ∙ lengths_first (any_place (too_long rows.even)) (any_place (too_long rows.odd)) (any_place (too_long rows.proposed)) (ltb last_view h.even.view)
     (bad_sets h.n h.even)
     (ltb last_view h.odd.view) (bad_sets h.n h.odd) (ltb last_view h.shown.view)
     (any_place (names_beyond h.n h.shown.filed) || any_place (names_beyond h.n h.shown.aside))
-    ∙ sym (λ i. beyond_agreement_lem h.n h.even e i || (beyond_agreement_lem h.n h.odd o i || beyond_proposals_lem h.n h.shown p i))
+    ∙ sym (λ i. beyond_agreement_lem h.n h.even rows.even i || (beyond_agreement_lem h.n h.odd rows.odd i || beyond_proposals_lem h.n h.shown rows.proposed rows.priorities i))
     in
-    (λ i. a i || (ltb (last_beat + 1) h.next || (ltb most_blocks h.decided || all i))) ∙ sym (beyond-causes (bench_from h e o p []))
-
--- priorities do not matter
-pub beyond_of : (h : Head) (e o p priorities : List ℕ) → beyond (bench_from h e o p []) ≡ beyond (bench_from h e o p priorities)
-beyond_of h e o p priorities = beyond_priorities (bench_from h e o p []) priorities
+    (λ i. a i || (ltb (last_beat + 1) h.next || (ltb most_blocks h.decided || all i))) ∙ sym (beyond-causes (bench_with h rows))

@@ -4,6 +4,7 @@ use native.Mathlib.Omega.{arith}
 use mathlib.Core.Bool.{Bool, true, false, not, ◌||◌}
 use mathlib.Core.List.{List, [], ◌∷◌, ◌++◌, append_assoc}
 use mathlib.Core.Path.{◌≡◌, refl, sym, ap, ◌∙◌}
+use Rattle.std.specs.Prelude.{Result, Ok, Err}
 use borrow.Author.Tests.{eq-eqb, ne_eqb, lt-ltb, le-ltb}
 use lib.Dec.{eqb, ltb}
 use lib.ListN.{length, get_or, set, take, drop, length-set, length-append, length-drop, take-append-drop, drop_of_length-le}
@@ -18,10 +19,11 @@ use Rattle.message.proofs.ListedLaws.{length_at_lem, counts_at}
 use Rattle.bench.specs.Layout.{decided_place}
 use Rattle.bench.specs.Totals.{totals_from, unlike, sum_of}
 use Rattle.bench.specs.declared.Entry.{Entry}
-use Rattle.bench.specs.declared.Entry.TheVariants.{At, Refused}
+use Rattle.bench.specs.declared.refusal.Refusal.{Refusal}
+use Rattle.bench.specs.declared.refusal.Refusal.TheVariants.{NoEntry}
 use Rattle.bench.proofs.TotalLaws.{totals_none, totals_more, totals_append, length_totals, sum_bound, alike, put-after}
 use Rattle.bench.proofs.TotalSteps.{unlike_none, unlike_more, last_total}
-use Rattle.calls.specs.TotalSteps.{decided_counts, Walkable, Writable, Extensible, Rising, entry_among}
+use Rattle.calls.specs.TotalSteps.{decided_counts, Walkable, Writable, Extensible, entry_among}
 
 -- ---- compared
 
@@ -30,11 +32,6 @@ pub record Summing (z : Bool) (counts totals : List ℕ) (k sum i : ℕ) : Type 
   pub within : i ≤ k
   pub small : sum ≤ 65535 * i
   pub rest : z ≡ unlike (totals_from sum (part counts (decided_place + i) (k - i))) (drop i totals)
-
-pub sum_starts : (counts totals : List ℕ) (k : ℕ) → Summing (unlike (totals_from 0 (decided_counts counts k)) totals) counts totals k 0 0
-sum_starts counts totals k =
-    let e : k ≡ k - 0 = omega arith in
-    record { within = omega arith; small = omega arith; rest = ap (λ (j : ℕ). unlike (totals_from 0 (part counts decided_place j)) totals) e }
 
 next_part : (l : List ℕ) (a i k : ℕ) → i < k → part l (a + i) (k - i) ≡ get_or l (a + i) 0 ∷ part l (a + (i + 1)) (k - (i + 1))
 next_part l a i k h =
@@ -64,17 +61,25 @@ module _ (z : Bool) (counts totals : List ℕ) (k sum i : ℕ) (w : Summing z co
       ∙ ap (λ (l : List ℕ). unlike l (get_or totals i 0 ∷ drop (i + 1) totals)) (totals_more sum (get_or counts (decided_place + i) 0) _)
       ∙ unlike_more through _ (get_or totals i 0) (drop (i + 1) totals)
 
-  pub sum_on : get_or counts (decided_place + i) 0 < 2 ^ 16 → get_or totals i 0 ≡ through → Summing z counts totals k through (i + 1)
-  sum_on b e =
-      let s = w.small in
-      record {
-        within = omega arith;
-        small = omega arith;
-        rest = turn ∙ ap (λ (t : Bool). not t || later) (eq-eqb (get_or totals i 0) through e);
-      }
+  -- x is the next count
+  module _ (x : ℕ) (q : x ≡ get_or counts (decided_place + i) 0) where
+    same : sum + x ≡ through
+    same = ap (λ (n : ℕ). sum + n) q
 
-  pub sum_off : (get_or totals i 0 ≡ through → ⊥) → true ≡ z
-  sum_off n = sym (turn ∙ ap (λ (t : Bool). not t || later) (ne_eqb (get_or totals i 0) through n))
+    pub sum_on : get_or counts (decided_place + i) 0 < 2 ^ 16 → get_or totals i 0 ≡ sum + x → Summing z counts totals k (sum + x) (i + 1)
+    sum_on b e =
+        let s = w.small in
+        let f : get_or totals i 0 ≡ through = e ∙ same in
+        rw q
+        (record {
+          within = omega arith;
+          small = omega arith;
+          rest = turn ∙ ap (λ (t : Bool). not t || later) (eq-eqb (get_or totals i 0) through f);
+        })
+
+    pub sum_off : (get_or totals i 0 ≡ sum + x → ⊥) → true ≡ z
+    sum_off n =
+        sym (turn ∙ ap (λ (t : Bool). not t || later) (ne_eqb (get_or totals i 0) through (λ f. n (f ∙ sym same))))
 
 pub sum_end : (z : Bool) (counts totals : List ℕ) (k sum i : ℕ) → Summing z counts totals k sum i → k ≤ i → false ≡ z
 sum_end z counts totals k sum i w h =
@@ -88,32 +93,27 @@ sum_end z counts totals k sum i w h =
 -- ---- found
 
 -- z is the whole; the entry is not in the i blocks passed
-pub record Seeking (z : Entry) (totals : List ℕ) (k e before i : ℕ) : Type 0 where
+pub record Seeking (z : Result Entry Refusal) (totals : List ℕ) (k e before i : ℕ) : Type 0 where
   pub within : i ≤ k
   pub low : before ≤ e
   pub last : before ≡ get_or (0 ∷ totals) i 0
   pub rest : z ≡ entry_among i before (part totals i (k - i)) e
 
-pub seek_starts : (totals : List ℕ) (k e : ℕ) → Seeking (entry_among 0 0 (part totals 0 k) e) totals k e 0 0
-seek_starts totals k e =
-    let f : k ≡ k - 0 = omega arith in
-    record { within = omega arith; low = omega arith; last = refl; rest = ap (λ (j : ℕ). entry_among 0 0 (part totals 0 j) e) f }
-
 pub among_more : (i before t : ℕ) (ts : List ℕ) (e : ℕ)
-    → entry_among i before (t ∷ ts) e ≡ pick (ltb e t) (At i (e - before)) (entry_among (i + 1) t ts e)
+    → entry_among i before (t ∷ ts) e ≡ pick (ltb e t) (Ok (record { block = i; inside = e - before })) (entry_among (i + 1) t ts e)
 unfolding entry_among
 among_more i before t ts e = refl
 
-pub among_none : (i before e : ℕ) → entry_among i before [] e ≡ Refused 23
+pub among_none : (i before e : ℕ) → entry_among i before [] e ≡ Err NoEntry
 unfolding entry_among
 among_none i before e = refl
 
-module _ (z : Entry) (totals : List ℕ) (k e before i : ℕ) (w : Seeking z totals k e before i) where
+module _ (z : Result Entry Refusal) (totals : List ℕ) (k e before i : ℕ) (w : Seeking z totals k e before i) where
   module _ (h : i < k) where
-    abbrev beyond : Entry
+    abbrev beyond : Result Entry Refusal
     beyond = entry_among (i + 1) (get_or totals i 0) (part totals (i + 1) (k - (i + 1))) e
 
-    seek_turn : z ≡ pick (ltb e (get_or totals i 0)) (At i (e - before)) beyond
+    seek_turn : z ≡ pick (ltb e (get_or totals i 0)) (Ok (record { block = i; inside = e - before })) beyond
     seek_turn =
         let f : k - i - 1 ≡ k - (i + 1) = omega arith in
         w.rest
@@ -121,8 +121,8 @@ module _ (z : Entry) (totals : List ℕ) (k e before i : ℕ) (w : Seeking z tot
         (part_step totals i (k - i) (omega arith) ∙ ap (λ (j : ℕ). get_or totals i 0 ∷ part totals (i + 1) j) f)
         ∙ among_more i before (get_or totals i 0) _ e
 
-    pub seek_found : e < get_or totals i 0 → At i (e - before) ≡ z
-    seek_found l = sym (seek_turn ∙ ap (λ (t : Bool). pick t (At i (e - before)) beyond) (lt-ltb e (get_or totals i 0) l))
+    pub seek_found : e < get_or totals i 0 → Ok (record { block = i; inside = e - before }) ≡ z
+    seek_found l = sym (seek_turn ∙ ap (λ (t : Bool). pick t (Ok (record { block = i; inside = e - before })) beyond) (lt-ltb e (get_or totals i 0) l))
 
     pub seek_on : get_or totals i 0 ≤ e → Seeking z totals k e (get_or totals i 0) (i + 1)
     seek_on l =
@@ -131,13 +131,10 @@ module _ (z : Entry) (totals : List ℕ) (k e before i : ℕ) (w : Seeking z tot
           within = omega arith;
           low = l;
           last = ap (λ (j : ℕ). get_or (0 ∷ totals) j 0) f;
-          rest = seek_turn ∙ ap (λ (t : Bool). pick t (At i (e - before)) beyond) (le-ltb e (get_or totals i 0) l);
+          rest = seek_turn ∙ ap (λ (t : Bool). pick t (Ok (record { block = i; inside = e - before })) beyond) (le-ltb e (get_or totals i 0) l);
         }
 
-    pub seek_fits : Rising totals k → e < get_or totals i 0 → e - before < 2 ^ 16
-    seek_fits r l = let s = r.steps i h in let q = w.last in omega arith
-
-  pub seek_end : k ≤ i → Refused 23 ≡ z
+  pub seek_end : k ≤ i → Err NoEntry ≡ z
   seek_end h =
       let f : k - i ≡ 0 = omega arith in
       sym (w.rest
@@ -154,16 +151,13 @@ pub record Writing (z counts totals : List ℕ) (before sum i size : ℕ) : Type
   pub small : sum ≤ before + 65535 * i
   pub rest : z ≡ put totals i (totals_from sum (drop i counts))
 
-pub write_starts : (counts totals : List ℕ) (before : ℕ)
-    → Writing (put totals 0 (totals_from before counts)) counts totals before before 0 (length totals)
-write_starts counts totals before = record { within = omega arith; same = refl; small = omega arith; rest = refl }
-
 module _ (z counts totals : List ℕ) (before sum i size : ℕ) (w : Writing z counts totals before sum i size) where
-  pub write_on : i < length counts → get_or counts i 0 < 2 ^ 16
-      → Writing z counts (set totals i (sum + get_or counts i 0)) before (sum + get_or counts i 0) (i + 1) size
-  write_on h b =
+  pub write_on : i < length counts → (x : ℕ) → x ≡ get_or counts i 0 → get_or counts i 0 < 2 ^ 16
+      → Writing z counts (set totals i (sum + x)) before (sum + x) (i + 1) size
+  write_on h x q b =
       let s = w.small in
-      record {
+      rw q
+      (record {
         within = omega arith;
         same = length-set totals i (sum + get_or counts i 0) ∙ w.same;
         small = omega arith;
@@ -171,7 +165,7 @@ module _ (z counts totals : List ℕ) (before sum i size : ℕ) (w : Writing z c
             ∙ ap (λ (l : List ℕ). put totals i (totals_from sum l)) (next_drop counts i h)
             ∙ ap (put totals i) (totals_more sum (get_or counts i 0) (drop (i + 1) counts))
             ∙ put_cons totals i (sum + get_or counts i 0) _;
-      }
+      })
 
   pub write_end : length counts ≤ i → totals ≡ z
   write_end h =
@@ -179,10 +173,6 @@ module _ (z counts totals : List ℕ) (before sum i size : ℕ) (w : Writing z c
       ∙ ap (λ (l : List ℕ). put totals i (totals_from sum l)) (drop_of_length-le counts {i = i} h)
       ∙ ap (put totals i) (totals_none sum)
       ∙ put_nil totals i)
-
--- the last of the first k totals
-pub last_is : (totals : List ℕ) (k : ℕ) → (k ≡ 0 → ⊥) → get_or totals (k - 1) 0 ≡ get_or (0 ∷ totals) k 0
-last_is totals k h = let e : suc (k - 1) ≡ k = omega arith in ap (λ (j : ℕ). get_or (0 ∷ totals) j 0) e
 
 -- ---- the part past the old length
 

@@ -2,10 +2,11 @@
 -- nothing.
 use Prim.Native.Nat.{ℕ, ◌+◌, ◌^◌, ◌≤◌, ◌<◌}
 use native.Mathlib.Omega.{arith}
-use mathlib.Core.Bool.{Bool, true, false}
+use mathlib.Core.Bool.{Bool, true}
 use mathlib.Core.List.{List, [], ◌∷◌, ◌++◌}
 use mathlib.Core.Option.{some}
 use mathlib.Core.Path.{◌≡◌, refl, sym, ap, subst, ◌∙◌}
+use Rattle.std.specs.Prelude.{Result, Ok}
 use mir.Syntax.{w16, w64}
 use mir.Val.{Fits}
 use borrow.Author.Tests.{ltb-false}
@@ -14,24 +15,24 @@ use Rattle.message.specs.Limits.{most_blocks}
 use Rattle.message.specs.Numbers.{AllBelow, put}
 use Rattle.message.specs.Logs.{Block, Log, names_of, counts_of}
 use Rattle.message.specs.Message.{Content, Meaning, log_message, proposal_message, said, log_of, bytes_of}
-use Rattle.message.specs.Store.{log_at, Writes, room_for, write_log_of, write_proposal_of}
+use Rattle.message.specs.Store.{log_at, log_from, proposal_from, Writes, room_for, write_log_of, write_proposal_of}
 use Rattle.message.proofs.PartLaws.{part_below, one_below, append_below}
 use Rattle.message.proofs.LogLaws.{names_append, counts_append, names_one, counts_one}
 use Rattle.message.proofs.ListedLaws.{length_at_lem, names_at, counts_at}
 use Rattle.message.proofs.WrittenFields.{length_message}
 use Rattle.message.proofs.Inside.{room_yes, written_inside, count_made, same_count, same_holds, same_log_lem, content_made_lem, priority_made}
 use Rattle.agreement.proofs.BytesLaws.{same_filed, same_proposal_filed}
-use Rattle.bench.specs.Layout.{is_even, logs_place, proposals_place, most_bytes}
+use Rattle.agreement.specs.declared.Answer.{Answer}
+use Rattle.bench.specs.Layout.{logs_place, proposals_place, most_bytes}
 use Rattle.bench.specs.Calls.{acted, Core}
-use Rattle.bench.specs.Record.{agreement_of, proposals_of, Bench, bench_from}
+use Rattle.bench.specs.Record.{agreement_of, proposals_of, Bench, bench_with}
 use Rattle.bench.specs.ByRecord.{Outcome, log_outcome, proposal_outcome, file_log, file_proposal, file_message, taken}
 use Rattle.bench.specs.Answers.{content_made, made_reply, core_with}
-use Rattle.calls.specs.Steps.{LogFiled, EvenFiled, OddFiled, ProposalFiled, Making, made_step, LogMade, ProposalMade, TakeGives}
-use Rattle.calls.specs.Steps.{MakeGives}
+use Rattle.calls.specs.Steps.{Making, made_step, TakeGives, MakeGives}
 use Rattle.bench.specs.declared.Head.{Head}
-use Rattle.bench.specs.declared.Taken.{Taken}
+use Rattle.bench.specs.declared.Rows.{Rows}
+use Rattle.bench.specs.declared.refusal.Refusal.{Refusal}
 use Rattle.bench.specs.declared.Made.{Made}
-use Rattle.bench.specs.declared.ReceivedHead.{ReceivedHead}
 use Rattle.bench.specs.declared.Made.TheVariants as makings
 use Rattle.bench.proofs.Replies.{made_log, made_proposal}
 use Rattle.bench.proofs.ActLaws.{file_log_lem, file_proposal_lem}
@@ -94,14 +95,14 @@ content_read out m k w e =
     ∙ content_made_lem out m w.room w.view w.names w.counts
 
 log_reply : (out : List ℕ) (m : Content) (k : ℕ) → Makeable out (log_message m) → length m.log ≡ k
-    → made_reply (put out 0 (bytes_of (log_message m))) (makings.Log k) ≡ acted (some (log_message m))
+    → made_reply (put out 0 (bytes_of (log_message m))) (Ok (makings.Log k)) ≡ acted (some (log_message m))
 log_reply out m k w e =
     made_log (put out 0 (bytes_of (log_message m))) k
     ∙ ap (λ (c : Content). acted (some (log_message c))) (content_read out (log_message m) k w e)
 
 proposal_reply : (out : List ℕ) (m : Content) (priority k : ℕ) → Makeable out (proposal_message m priority) → priority < 256 ^ 8
     → length m.log ≡ k
-    → made_reply (put out 0 (bytes_of (proposal_message m priority))) (makings.Proposal k) ≡ acted (some (proposal_message m priority))
+    → made_reply (put out 0 (bytes_of (proposal_message m priority))) (Ok (makings.Proposal k)) ≡ acted (some (proposal_message m priority))
 proposal_reply out m priority k w h e =
     let c = content_read out (proposal_message m priority) k w e in
     let p = priority_made out m priority w.room h in
@@ -109,14 +110,14 @@ proposal_reply out m priority k w h e =
 
 -- ---- written, filed from the buffer and answered
 
-module _ (s : Core) (out : List ℕ) (m : Meaning) (w : Makeable out m) (a : Made) (o : List ℕ) (y : Taken) (c : Bench) (ns cs : List ℕ) where
-  made_acts : o ≡ put out 0 (bytes_of m) → made_reply (put out 0 (bytes_of m)) a ≡ acted (some m)
+module _ (s : Core) (out : List ℕ) (m : Meaning) (w : Makeable out m) (a : Made) (o : List ℕ) (y : Result Answer Refusal) (c : Bench) (ns cs : List ℕ) where
+  made_acts : o ≡ put out 0 (bytes_of m) → made_reply (put out 0 (bytes_of m)) (Ok a) ≡ acted (some m)
       → TakeGives (taken (file_message s o m)) y c ns cs
       → MakeGives (made_step s out m) a c ns cs o
   made_acts e q r =
       let x : file_message s o m ≡ file_message s (bytes_of m) m = ap (λ (l : List ℕ). file_message s l m) e ∙ filed_same out m w s in
       record {
-        answered = ap (λ (l : List ℕ). made_reply l a) e ∙ q;
+        answered = ap (λ (l : List ℕ). made_reply l (Ok a)) e ∙ q;
         bench = r.bench ∙ ap (λ (z : Outcome). z.held.bench) x;
         name_list = r.name_list ∙ ap (λ (z : Outcome). z.held.names) x;
         count_list = r.count_list ∙ ap (λ (z : Outcome). z.held.counts) x;
@@ -125,9 +126,12 @@ module _ (s : Core) (out : List ℕ) (m : Meaning) (w : Makeable out m) (a : Mad
 
 -- ---- the LOG and the PROPOSAL of the blocks at a place
 
-module _ (h : Head) (names counts out : List ℕ) (v a k : ℕ) (hn : (i : ℕ) → Fits w64 (get_or names i 0))
+module _ (h : Head) (rows : Rows) (names counts out : List ℕ) (v a k : ℕ) (hn : (i : ℕ) → Fits w64 (get_or names i 0))
     (hc : (i : ℕ) → Fits w16 (get_or counts i 0))
-    (r : Bool) (o : List ℕ) (f : ReceivedHead) (ns cs : List ℕ) where
+    (r : Bool) (o : List ℕ) (y : Result Answer Refusal) (c : Bench) (ns cs : List ℕ) where
+  abbrev s : Core
+  s = core_with (bench_with h rows) names counts
+
   abbrev L : Log
   L = log_at names counts a k
 
@@ -137,55 +141,35 @@ module _ (h : Head) (names counts out : List ℕ) (v a k : ℕ) (hn : (i : ℕ) 
   counts_fit : AllBelow (2 ^ 16) (counts_of L)
   counts_fit = subst (AllBelow (2 ^ 16)) (sym (counts_at names counts a k)) (part_below (2 ^ 16) counts a k (λ i. (hc i).fits))
 
-  module _ (e d e' d' : List ℕ) where
-    log_acts : Making names counts out v a k → Writes (write_log_of out names counts a k h.own v) r o
-        → LogFiled h e d names counts o v h.own f e' d' ns cs
-        → LogMade h e d names counts out v a k (record { answer = makings.Log k; head = f.head }) e' d' ns cs o
-    log_acts p x y =
-        let m : Content = record { sender = h.own; view = v; log = L } in
-        let l = length_at_lem names counts a k in
-        let few = p.before.1 in
-        let w = makeable p (log_message m) (omega arith) refl names_fit counts_fit in
-        let z = (written_inside (room_for out names counts a k k) out (log_message m) r o (made_room p k few) x).1 in
-        record {
-          whole = λ q s. made_acts (core_with (bench_from h e d q s) names counts) out (log_message m) w (makings.Log k) o f.answer
-              (bench_from f.head e' d' q s) ns cs z (log_reply out m k w l) (rw file_log_lem (y.whole q s));
-        }
+  pub log_acts : Making names counts out v a k → Writes (write_log_of out names counts a k h.own v) r o
+      → TakeGives (taken (file_log s o v h.own)) y c ns cs
+      → MakeGives (made_step s out (log_from names counts a k h.own v)) (makings.Log k) c ns cs o
+  log_acts p x f =
+      let m : Content = record { sender = h.own; view = v; log = L } in
+      let l = length_at_lem names counts a k in
+      let few = p.before.1 in
+      let w = makeable p (log_message m) (omega arith) refl names_fit counts_fit in
+      let z = (written_inside (room_for out names counts a k k) out (log_message m) r o (made_room p k few) x).1 in
+      made_acts s out (log_message m) w (makings.Log k) o y c ns cs z (log_reply out m k w l) (rw file_log_lem f)
 
-  -- by the parity of the view
-  module _ (e d : List ℕ) (p : Making names counts out v a k) (x : Writes (write_log_of out names counts a k h.own v) r o) (y : Bool)
-      (u : y ≡ is_even v) where
-    pub even_acts : (e' : List ℕ) → y ≡ true → EvenFiled h e names counts o v h.own f e' ns cs
-        → LogMade h e d names counts out v a k (record { answer = makings.Log k; head = f.head }) e' d ns cs o
-    even_acts e' t z = log_acts e d e' d p x (z.whole (sym u ∙ t) d)
-
-    pub odd_acts : (d' : List ℕ) → y ≡ false → OddFiled h d names counts o v h.own f d' ns cs
-        → LogMade h e d names counts out v a k (record { answer = makings.Log k; head = f.head }) e d' ns cs o
-    odd_acts d' t z = log_acts e d e d' p x (z.whole (sym u ∙ t) e)
-
-  module _ (q s q' s' : List ℕ) where
-    pub proposal_acts : (name count priority : ℕ) → Fits w64 name → Fits w16 count → Fits w64 priority
-        → (Making names counts out v a k) × (k < most_blocks)
-        → Writes (write_proposal_of out names counts a k (record { name = name; count = count }) h.own v priority) r o
-        → ProposalFiled h q s names counts o v h.own priority f q' s' ns cs
-        → ProposalMade h q s names counts out v a k (record { name = name; count = count }) priority
-        (record { answer = makings.Proposal (k + 1); head = f.head }) q' s' ns cs o
-    proposal_acts name count priority tn tc tp (p, few) x y =
-        let block : Block = record { name = name; count = count } in
-        let m : Content = record { sender = h.own; view = v; log = L ++ (block ∷ []) } in
-        let l : length (L ++ (block ∷ [])) ≡ k + 1 = length-append L (block ∷ []) ∙ ap (λ (j : ℕ). j + 1) (length_at_lem names counts a k) in
-        let w = makeable p (proposal_message m priority) (omega arith) refl
-        (subst (AllBelow (2 ^ 64)) (sym (names_append L (block ∷ [])))
-        (append_below (2 ^ 64) (names_of L) (names_of (block ∷ [])) names_fit
-        (subst (AllBelow (2 ^ 64)) (sym (names_one block)) (one_below (2 ^ 64) name tn.fits))))
-        (subst (AllBelow (2 ^ 16)) (sym (counts_append L (block ∷ [])))
-        (append_below (2 ^ 16) (counts_of L) (counts_of (block ∷ [])) counts_fit
-        (subst (AllBelow (2 ^ 16)) (sym (counts_one block)) (one_below (2 ^ 16) count tc.fits)))) in
-        let z = (written_inside (room_for out names counts a k (k + 1)) out (proposal_message m priority) r o
-        (made_room p (k + 1) (omega arith)) x).1 in
-        record {
-          whole = λ e d.
-              made_acts (core_with (bench_from h e d q s) names counts) out (proposal_message m priority) w (makings.Proposal (k + 1)) o
-              f.answer (bench_from f.head e d q' s') ns cs z
-              (proposal_reply out m priority (k + 1) w tp.fits l) (rw file_proposal_lem (y.whole e d));
-        }
+  pub proposal_acts : (name count priority : ℕ) → Fits w64 name → Fits w16 count → Fits w64 priority
+      → (Making names counts out v a k) × (k < most_blocks)
+      → Writes (write_proposal_of out names counts a k (record { name = name; count = count }) h.own v priority) r o
+      → TakeGives (taken (file_proposal s o v h.own priority)) y c ns cs
+      → MakeGives (made_step s out (proposal_from names counts a k (record { name = name; count = count }) h.own v priority))
+      (makings.Proposal (k + 1)) c ns cs o
+  proposal_acts name count priority tn tc tp (p, few) x f =
+      let block : Block = record { name = name; count = count } in
+      let m : Content = record { sender = h.own; view = v; log = L ++ (block ∷ []) } in
+      let l : length (L ++ (block ∷ [])) ≡ k + 1 = length-append L (block ∷ []) ∙ ap (λ (j : ℕ). j + 1) (length_at_lem names counts a k) in
+      let w = makeable p (proposal_message m priority) (omega arith) refl
+      (subst (AllBelow (2 ^ 64)) (sym (names_append L (block ∷ [])))
+      (append_below (2 ^ 64) (names_of L) (names_of (block ∷ [])) names_fit
+      (subst (AllBelow (2 ^ 64)) (sym (names_one block)) (one_below (2 ^ 64) name tn.fits))))
+      (subst (AllBelow (2 ^ 16)) (sym (counts_append L (block ∷ [])))
+      (append_below (2 ^ 16) (counts_of L) (counts_of (block ∷ [])) counts_fit
+      (subst (AllBelow (2 ^ 16)) (sym (counts_one block)) (one_below (2 ^ 16) count tc.fits)))) in
+      let z = (written_inside (room_for out names counts a k (k + 1)) out (proposal_message m priority) r o
+      (made_room p (k + 1) (omega arith)) x).1 in
+      made_acts s out (proposal_message m priority) w (makings.Proposal (k + 1)) o y c ns cs z
+      (proposal_reply out m priority (k + 1) w tp.fits l) (rw file_proposal_lem f)

@@ -1,13 +1,14 @@
 -- What the inner functions over the totals ask and promise: steps on the way to the definitions of bench's ByRecord, which they do not add
 -- to. Assumes nothing.
-use Rattle.std.specs.Prelude.{ℕ, ◌+◌, ◌*◌, ◌-◌, ◌^◌, ◌≤◌, ◌<◌, false, List, [], ◌∷◌, ◌≡◌, ltb, length, get_or}
+use Rattle.std.specs.Prelude.{ℕ, ◌+◌, ◌*◌, ◌-◌, ◌^◌, ◌≤◌, ◌<◌, false, List, [], ◌∷◌, ◌≡◌, ltb, length, get_or, Result, Ok, Err}
 use Rattle.message.specs.Limits.{most_blocks}
 use Rattle.message.specs.Choice.{pick}
 use Rattle.message.specs.Numbers.{part}
 use Rattle.bench.specs.Layout.{decided_place, least_lent}
 use Rattle.bench.specs.Totals.{totals_from, unlike}
 use Rattle.bench.specs.declared.Entry.{Entry}
-use Rattle.bench.specs.declared.Entry.TheVariants.{At, Refused}
+use Rattle.bench.specs.declared.refusal.Refusal.{Refusal}
+use Rattle.bench.specs.declared.refusal.Refusal.TheVariants.{NoEntry}
 
 -- the counts of the first k decided blocks
 abbrev pub decided_counts : List ℕ → ℕ → List ℕ
@@ -36,6 +37,6 @@ pub record Rising (totals : List ℕ) (k : ℕ) : Type 0 where
   pub steps : (i : ℕ) → i < k → get_or totals i 0 < get_or (0 ∷ totals) i 0 + 2 ^ 16
 
 -- where entry e is, by the totals of the blocks from place i on, and the total before them
-unfoldable pub entry_among : ℕ → ℕ → List ℕ → ℕ → Entry
-entry_among i before [] e = Refused 23
-entry_among i before (t ∷ ts) e = pick (ltb e t) (At i (e - before)) (entry_among (i + 1) t ts e)
+unfoldable pub entry_among : ℕ → ℕ → List ℕ → ℕ → Result Entry Refusal
+entry_among i before [] e = Err NoEntry
+entry_among i before (t ∷ ts) e = pick (ltb e t) (Ok (record { block = i; inside = e - before })) (entry_among (i + 1) t ts e)

@@ -1,61 +1,50 @@
 // The acts by the calendar (specs/Calendar.antt of crate bench).
 ghost use Rattle.bench.specs.Calendar.{view_of, place_in, act_at};
-ghost use Rattle.bench.specs.Record.{bench_from, beat_of};
+ghost use Rattle.bench.specs.Record.{bench_with, beat_of};
 ghost use Rattle.bench.specs.ByRecord.{over, acted_of};
-ghost use Rattle.bench.specs.Answers.{core_with};
+ghost use Rattle.bench.specs.Answers.{core_with, offered};
 ghost use Rattle.calls.specs.Steps.{bare, Acting, ActLeaves};
 
+use super::calendar::{Act, act_of};
 use super::deciding::{decide, snap_view};
 use super::making::{propose, vote};
 use super::record::beat_of;
-use bench::{ActedHead, Head, Made};
+use agreement::Given;
+use bench::{Head, Made, Offer, Rows};
 
 // The gathering is over, and the act of its beat is done.
 pub(crate) fn act_at(
     h: Head,
-    even: &mut [u8; 32],
-    odd: &mut [u8; 32],
-    proposed: &mut [u8; 32],
-    priorities: &mut [u64; 32],
+    rows: &mut Rows,
     names: &mut [u64],
     counts: &mut [u16],
     totals: &mut [u32],
     out: &mut [u8],
-    name: u64,
-    count: u16,
-    priority: u64,
-) -> ActedHead
-    requires { Acting h even.old odd.old proposed.old priorities.old names.old counts.old totals.old out.old }
+    offer: Offer,
+) -> Given<Made, Head>
+    requires { Acting h rows.old names.old counts.old totals.old out.old }
     ensures { ActLeaves totals.old h.decided
-        (acted_of (over (core_with (bench_from h even.old odd.old proposed.old priorities.old)
-        names.old counts.old))
-        (record { name = name; count = count }) priority out.old (view_of (beat_of (bare h))) (act_at (place_in (beat_of (bare h)))))
-        result.answer
-        (bench_from result.head even.new odd.new proposed.new priorities.new) names.new
-        counts.new totals.new out.new }
+        (acted_of (over (core_with (bench_with h rows.old) names.old counts.old)) (offered offer) offer.priority
+        out.old (view_of (beat_of (bare h))) (act_at (place_in (beat_of (bare h)))))
+        result.answer (bench_with result.after rows.new) names.new counts.new totals.new out.new }
 {
     let beat = beat_of(h);
     let v = beat / 4;
-    let place = beat % 4;
     let mut b = h;
     b.gathering = 0;
-    if place == 0 {
-        return propose(
-            b, even, odd, proposed, priorities, names, counts, out, v, name, count, priority,
-        );
-    }
-    if place == 1 {
-        return vote(b, even, odd, proposed, priorities, names, counts, out, v);
-    }
-    if place == 2 {
-        let c = decide(b, even, odd, names, counts, totals, v);
-        return ActedHead {
+    match act_of(beat) {
+        Act::Proposing => propose(b, rows, names, counts, out, v, offer),
+        Act::Voting => vote(b, rows, names, counts, out, v),
+        Act::Deciding => {
+            let c = decide(b, rows, names, counts, totals, v);
+            Given {
+                answer: Made::Nothing,
+                after: snap_view(c, rows, v, false),
+            }
+        }
+        Act::Snapping => Given {
             answer: Made::Nothing,
-            head: snap_view(c, even, odd, v, false),
-        };
-    }
-    ActedHead {
-        answer: Made::Nothing,
-        head: snap_view(b, even, odd, v, true),
+            after: snap_view(b, rows, v, true),
+        },
     }
 }

@@ -1,20 +1,20 @@
-// What an act reads of the agreement before (specs/Readings.antt of crate bench), with its counts.
-ghost use Rattle.std.specs.Prelude.{◌≡◌, [], ◌-◌, ◌≤◌};
+// What an act reads of the agreement before (specs/Support.antt of crate bench), with its counts.
+ghost use Rattle.std.specs.Prelude.{◌≡◌, ◌≤◌};
 ghost use Rattle.agreement.specs.Limits.{most_senders};
 ghost use Rattle.agreement.specs.Record.{agreement_from};
 ghost use Rattle.agreement.specs.Grades.{Placed, log_of};
 ghost use Rattle.agreement.specs.Tally.{supporters_of};
-ghost use Rattle.bench.specs.Calendar.{act_at};
-ghost use Rattle.bench.specs.Record.{bench_from, of_view};
+ghost use Rattle.bench.specs.Record.{bench_with, of_view};
 ghost use Rattle.bench.specs.Answers.{core_with};
 ghost use Rattle.bench.specs.Support.{or_empty, SupportGives};
-ghost use Rattle.calls.specs.Steps.{CountsIn};
+ghost use Rattle.calls.specs.Steps.{row_of, CountsIn};
 
-use super::record::{is_even, logs_place};
-use super::seeing::used;
+use super::calendar::{Act, grade_read};
+use super::record::{lengths_of, logs_place, marks_of};
+use super::seeing::{EMPTY, used};
 use agreement::grading::serving;
-use agreement::{Grade, Marks, tally};
-use bench::{Counted, Head};
+use agreement::{Longest, Marks, tally};
+use bench::{Counted, Head, Rows};
 
 // How many support the log of a grade, or the empty log where there is none.
 fn supporters(
@@ -24,16 +24,23 @@ fn supporters(
     counts: &[u16],
     base: u32,
     among: u32,
-    grade: Grade,
+    grade: Option<Longest>,
 ) -> usize
     requires { Placed grade }
     ensures { (result ≡ supporters_of names.now counts.now base (agreement_from g lengths.now) among
         (or_empty (log_of names.now counts.now base grade))) × (result ≤ most_senders) }
 {
-    let Grade::Longest(i, k) = grade else {
-        return tally::supporters(g, lengths, names, counts, base, among, 0, 0);
-    };
-    tally::supporters(g, lengths, names, counts, base, among, i, k)
+    let longest = grade.unwrap_or(EMPTY);
+    tally::supporters(
+        g,
+        lengths,
+        names,
+        counts,
+        base,
+        among,
+        longest.sender,
+        longest.blocks,
+    )
 }
 
 // The counts of a grade of a slot, as far as the slot is of view v: else nobody is heard.
@@ -45,7 +52,7 @@ fn counted(
     base: u32,
     v: u32,
     k: u8,
-    grade: Grade,
+    grade: Option<Longest>,
 ) -> Counted
     requires { Placed grade }
     ensures { CountsIn names.now counts.now base
@@ -66,35 +73,38 @@ fn counted(
     }
 }
 
-// What the act at this place of view v reads.
+// What the act of a row reads in view v.
 pub(crate) fn read_at(
     h: Head,
-    even: &[u8; 32],
-    odd: &[u8; 32],
+    rows: &Rows,
     names: &[u64],
     counts: &[u16],
     v: u32,
-    place: u8,
+    act: Act,
 ) -> Counted
-    ensures { SupportGives
-        (core_with (bench_from h even.now odd.now [] []) names.now counts.now) v (act_at place)
-        result }
+    ensures { SupportGives (core_with (bench_with h rows.now) names.now counts.now) v (row_of act) result }
 {
-    let grade = used(h, even, odd, names, counts, v, place);
+    let grade = used(h, rows, names, counts, v, act);
     let nobody = Counted {
         grade,
         supporters: 0,
         senders: 0,
     };
-    if 2 < place {
+    let Some(k) = grade_read(act) else {
         return nobody;
-    }
+    };
     if v == 0 {
         return nobody;
     }
-    let base = logs_place(v - 1);
-    if is_even(v - 1) {
-        return counted(h.even, even, names, counts, base, v - 1, place, grade);
-    }
-    counted(h.odd, odd, names, counts, base, v - 1, place, grade)
+    let before = v - 1;
+    counted(
+        marks_of(h, before),
+        lengths_of(rows, before),
+        names,
+        counts,
+        logs_place(before),
+        before,
+        k,
+        grade,
+    )
 }

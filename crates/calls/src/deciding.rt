@@ -3,20 +3,22 @@ ghost use Rattle.std.proofs.Math.Option.{some};
 ghost use Rattle.message.specs.Store.{log_at};
 ghost use Rattle.calls.specs.Steps.{Settling, Deciding, Settles, Decides, Snaps};
 
+use super::calendar::Act;
 use super::record::{is_even, of_view};
-use super::seeing::{place_before, used};
+use super::seeing::{Listed, seen};
 use super::totals::extend_totals;
-use agreement::{Grade, snap};
-use bench::{DECIDED_PLACE, Head};
+use agreement::snap;
+use bench::{DECIDED_PLACE, Head, Rows};
 use message::LAST_VIEW;
 use message::store::{copy, is_prefix};
 
-// The log of the blocks at place `at` is decided: it extends the decided log, is a prefix of it, or the mark is set.
-fn settle(h: Head, names: &mut [u64], counts: &mut [u16], at: usize, blocks: u8) -> Head
-    requires { Settling h names.old counts.old at blocks }
+// The log is decided: it extends the decided log, is a prefix of it, or the mark is set.
+fn settle(h: Head, names: &mut [u64], counts: &mut [u16], log: Listed) -> Head
+    requires { Settling h names.old counts.old log.at log.blocks }
     ensures { Settles h names.old counts.old
-        (some (log_at names.old counts.old at blocks)) result names.new counts.new }
+        (some (log_at names.old counts.old log.at log.blocks)) result names.new counts.new }
 {
+    let Listed { at, blocks } = log;
     let old = h.decided as usize;
     let new = blocks as usize;
     let mut c = h;
@@ -35,46 +37,39 @@ fn settle(h: Head, names: &mut [u64], counts: &mut [u16], at: usize, blocks: u8)
 // The longest log with grade 2 of the view before v, where there is one, is decided, and the totals of its new blocks are written.
 pub(crate) fn decide(
     h: Head,
-    even: &[u8; 32],
-    odd: &[u8; 32],
+    rows: &Rows,
     names: &mut [u64],
     counts: &mut [u16],
     totals: &mut [u32],
     v: u32,
 ) -> Head
     requires { Deciding h names.old counts.old totals.old }
-    ensures { Decides h even.now odd.now names.old counts.old totals.old v result
+    ensures { Decides h rows.now names.old counts.old totals.old v result
         names.new counts.new totals.new }
 {
-    let Grade::Longest(i, blocks) = used(h, even, odd, names, counts, v, 2) else {
+    let Some(log) = seen(h, rows, names, counts, v, Act::Deciding) else {
         return h;
     };
-    let at = place_before(v, i);
-    let c = settle(h, names, counts, at, blocks);
+    let c = settle(h, names, counts, log);
     extend_totals(counts, totals, h.decided, c.decided);
     c
 }
 
-// A snapshot of view v is taken, the second or the first, where there is such a view.
-pub(crate) fn snap_view(
-    h: Head,
-    even: &mut [u8; 32],
-    odd: &mut [u8; 32],
-    v: u32,
-    second: bool,
-) -> Head
-    ensures { Snaps h even.old odd.old v second result even.new odd.new }
+// A snapshot of view v is taken, the second or the first, where there is such a view. Kept as two branches, as in filing, and a bool, as
+// crate agreement takes it.
+pub(crate) fn snap_view(h: Head, rows: &mut Rows, v: u32, second: bool) -> Head
+    ensures { Snaps h rows.old v second result rows.new }
 {
     if LAST_VIEW < v {
         return h;
     }
     let mut c = h;
     if is_even(v) {
-        let g = of_view(h.even, even, v);
+        let g = of_view(h.even, &mut rows.even, v);
         c.even = snap(g, second);
         return c;
     }
-    let g = of_view(h.odd, odd, v);
+    let g = of_view(h.odd, &mut rows.odd, v);
     c.odd = snap(g, second);
     c
 }

@@ -1,116 +1,114 @@
-// Receiving: a message is read, its window looked up, and what it says filed. What does not concern the agreements is not handed to
-// the functions on LOGs, nor what does not concern the proposals to those on PROPOSALs.
-ghost use Rattle.std.specs.Prelude.{◌≡◌};
-ghost use Rattle.agreement.specs.Filing.{word_of};
-ghost use Rattle.bench.specs.Calls.{took};
-ghost use Rattle.bench.specs.Record.{bench_from};
-ghost use Rattle.bench.specs.Answers.{core_with, taken_reply};
-ghost use Rattle.calls.specs.Steps.{receives, TakeGives, EvenFiled, OddFiled, LogTaken, ProposalFiled, ProposalTaken};
+// Receiving: a message is read, its window looked up, and what it says filed.
+ghost use Rattle.message.specs.Message.{log_message, proposal_message, content_of};
+ghost use Rattle.agreement.specs.Record.{agreement_from};
+ghost use Rattle.agreement.specs.Filing.{Files, file_of};
+ghost use Rattle.bench.specs.Record.{bench_with, of_view};
+ghost use Rattle.bench.specs.ByRecord.{file_log, file_proposal, taken};
+ghost use Rattle.bench.specs.Answers.{core_with};
+ghost use Rattle.calls.specs.Steps.{given_of, receives, receives_as, TakeGives};
 
-use super::calendar::{takes_logs, takes_proposals};
+use super::calendar::{LOGS, PROPOSALS};
 use super::record::{beat_of, is_even, of_view, shown_of};
-use agreement::Answer;
 use agreement::filing::{marked, store};
-use bench::{Head, ODD_PLACE, PROPOSALS_PLACE, ReceivedHead, Taken};
+use agreement::{Answer, Given, Marks};
+use bench::{Head, ODD_PLACE, PROPOSALS_PLACE, Refusal, Rows};
 use message::Message;
 
-// The word on a message filed.
-fn word(answer: Answer) -> Taken
-    ensures { taken_reply result ≡ took (word_of answer) }
-{
-    match answer {
-        Answer::First => Taken::First,
-        Answer::Second => Taken::Second,
-        Answer::Known => Taken::Known,
-    }
-}
-
-// The LOG in the bytes, from this sender, in the agreement of view v, which is even. Even and odd are functions of their own: the
-// compiler puts each into Receive and into Act, and one of both parities it would not, and copy the head for it.
-pub(crate) fn file_even(
-    h: Head,
-    even: &mut [u8; 32],
+// The LOG in the bytes, from this sender, in the agreement of view v in one slot, whose logs stand from `base` on.
+#[inline(always)]
+fn file_in(
+    g: Marks,
+    lengths: &mut [u8; 32],
     names: &mut [u64],
     counts: &mut [u16],
+    base: u32,
     bytes: &[u8],
     v: u32,
     sender: u8,
-) -> ReceivedHead
-    ensures { EvenFiled h even.old names.old counts.old bytes.now v sender result
-        even.new names.new counts.new }
+) -> Given<Answer, Marks>
+    ensures { Files
+        (file_of (of_view (agreement_from g lengths.old) v) names.old counts.old base bytes.now sender) result
+        lengths.new names.new counts.new }
 {
-    let g = of_view(h.even, even, v);
+    let m = of_view(g, lengths, v);
     let answer = store(
-        g.voters,
-        g.equivocators,
-        even,
+        m.voters,
+        m.equivocators,
+        lengths,
         names,
         counts,
-        0,
+        base,
         bytes,
         sender,
     );
-    let mut c = h;
-    c.even = marked(g, answer, sender);
-    ReceivedHead {
-        answer: word(answer),
-        head: c,
+    Given {
+        answer,
+        after: marked(m, answer, sender),
     }
 }
 
-// The same where view v is odd.
-pub(crate) fn file_odd(
+// The same in the slot of the view's parity. It is put into Receive and into Act, so that the head is not copied for it. Kept as two
+// branches: a function that hands out a `&mut` to one row or the other gets no contract.
+#[inline(always)]
+pub(crate) fn file_log(
     h: Head,
-    odd: &mut [u8; 32],
+    rows: &mut Rows,
     names: &mut [u64],
     counts: &mut [u16],
     bytes: &[u8],
     v: u32,
     sender: u8,
-) -> ReceivedHead
-    ensures { OddFiled h odd.old names.old counts.old bytes.now v sender result
-        odd.new names.new counts.new }
+) -> Given<Answer, Head>
+    ensures { TakeGives
+        (taken (file_log (core_with (bench_with h rows.old) names.old counts.old) bytes.now v sender))
+        (Ok result.answer) (bench_with result.after rows.new) names.new counts.new }
 {
-    let g = of_view(h.odd, odd, v);
-    let answer = store(
-        g.voters,
-        g.equivocators,
-        odd,
+    let mut c = h;
+    if is_even(v) {
+        let f = file_in(h.even, &mut rows.even, names, counts, 0, bytes, v, sender);
+        c.even = f.after;
+        return Given {
+            answer: f.answer,
+            after: c,
+        };
+    }
+    let f = file_in(
+        h.odd,
+        &mut rows.odd,
         names,
         counts,
         ODD_PLACE,
         bytes,
+        v,
         sender,
     );
-    let mut c = h;
-    c.odd = marked(g, answer, sender);
-    ReceivedHead {
-        answer: word(answer),
-        head: c,
+    c.odd = f.after;
+    Given {
+        answer: f.answer,
+        after: c,
     }
 }
 
 // The PROPOSAL in the bytes, from this sender and of this priority, among the proposals of view v.
 pub(crate) fn file_proposal(
     h: Head,
-    proposed: &mut [u8; 32],
-    priorities: &mut [u64; 32],
+    rows: &mut Rows,
     names: &mut [u64],
     counts: &mut [u16],
     bytes: &[u8],
     v: u32,
     sender: u8,
     priority: u64,
-) -> ReceivedHead
-    ensures { ProposalFiled h proposed.old priorities.old names.old counts.old
-        bytes.now v sender priority result
-        proposed.new priorities.new names.new counts.new }
+) -> Given<Answer, Head>
+    ensures { TakeGives
+        (taken (file_proposal (core_with (bench_with h rows.old) names.old counts.old) bytes.now v sender priority))
+        (Ok result.answer) (bench_with result.after rows.new) names.new counts.new }
 {
-    let g = shown_of(h.shown, proposed, priorities, v);
+    let g = shown_of(h.shown, &mut rows.proposed, &mut rows.priorities, v);
     let f = agreement::proposing::file(
         g,
-        proposed,
-        priorities,
+        &mut rows.proposed,
+        &mut rows.priorities,
         names,
         counts,
         PROPOSALS_PLACE,
@@ -118,105 +116,80 @@ pub(crate) fn file_proposal(
         sender,
         priority,
     );
-    let answer = f.answer;
-    let marks = f.marks;
     let mut c = h;
-    c.shown = marks;
-    ReceivedHead {
-        answer: word(answer),
-        head: c,
+    c.shown = f.after;
+    Given {
+        answer: f.answer,
+        after: c,
     }
 }
 
 // A LOG of this head: filed where its view is open.
 fn take_log(
     h: Head,
-    even: &mut [u8; 32],
-    odd: &mut [u8; 32],
+    rows: &mut Rows,
     names: &mut [u64],
     counts: &mut [u16],
     bytes: &[u8],
     head: message::Head,
-) -> ReceivedHead
-    ensures { LogTaken h even.old odd.old names.old counts.old
-        bytes.now head result
-        even.new odd.new names.new counts.new }
+) -> Result<Given<Answer, Head>, Refusal>
+    ensures { TakeGives
+        (receives_as (core_with (bench_with h rows.old) names.old counts.old) bytes.now
+        (log_message (content_of bytes.now head)))
+        (given_of h result).answer (bench_with (given_of h result).after rows.new) names.new counts.new }
 {
-    if takes_logs(head.view, beat_of(h)) {
-        if is_even(head.view) {
-            return file_even(h, even, names, counts, bytes, head.view, head.sender);
-        }
-        return file_odd(h, odd, names, counts, bytes, head.view, head.sender);
+    if LOGS.is_open(head.view, beat_of(h)) {
+        return Ok(file_log(h, rows, names, counts, bytes, head.view, head.sender));
     }
-    ReceivedHead {
-        answer: Taken::Refused(21),
-        head: h,
-    }
+    Err(Refusal::NotOpen)
 }
 
 // A PROPOSAL of this head and priority: filed where its view is open.
 fn take_proposal(
     h: Head,
-    proposed: &mut [u8; 32],
-    priorities: &mut [u64; 32],
+    rows: &mut Rows,
     names: &mut [u64],
     counts: &mut [u16],
     bytes: &[u8],
     head: message::Head,
     priority: u64,
-) -> ReceivedHead
-    ensures { ProposalTaken h proposed.old priorities.old names.old counts.old
-        bytes.now head priority result
-        proposed.new priorities.new names.new counts.new }
+) -> Result<Given<Answer, Head>, Refusal>
+    ensures { TakeGives
+        (receives_as (core_with (bench_with h rows.old) names.old counts.old) bytes.now
+        (proposal_message (content_of bytes.now head) priority))
+        (given_of h result).answer (bench_with (given_of h result).after rows.new) names.new counts.new }
 {
-    if takes_proposals(head.view, beat_of(h)) {
-        return file_proposal(
+    if PROPOSALS.is_open(head.view, beat_of(h)) {
+        return Ok(file_proposal(
             h,
-            proposed,
-            priorities,
+            rows,
             names,
             counts,
             bytes,
             head.view,
             head.sender,
             priority,
-        );
+        ));
     }
-    ReceivedHead {
-        answer: Taken::Refused(21),
-        head: h,
-    }
+    Err(Refusal::NotOpen)
 }
 
 // A message in a gathering under way. Refused: 1 to 6, 21.
 pub(crate) fn take(
     h: Head,
-    even: &mut [u8; 32],
-    odd: &mut [u8; 32],
-    proposed: &mut [u8; 32],
-    priorities: &mut [u64; 32],
+    rows: &mut Rows,
     names: &mut [u64],
     counts: &mut [u16],
     bytes: &[u8],
-) -> ReceivedHead
-    ensures { TakeGives
-        (receives (core_with (bench_from h even.old odd.old proposed.old priorities.old)
-        names.old counts.old)
-        bytes.now) result.answer
-        (bench_from result.head even.new odd.new proposed.new priorities.new) names.new
-        counts.new }
+) -> Result<Given<Answer, Head>, Refusal>
+    ensures { TakeGives (receives (core_with (bench_with h rows.old) names.old counts.old) bytes.now)
+        (given_of h result).answer (bench_with (given_of h result).after rows.new) names.new counts.new }
 {
-    let message = message::reader::read(h.n, bytes);
+    let message = message::reader::read(h.n, bytes)?;
     match message {
-        Message::Refused(number) => ReceivedHead {
-            answer: Taken::Refused(number),
-            head: h,
-        },
-        Message::Log(head) => take_log(h, even, odd, names, counts, bytes, head),
+        Message::Log(head) => take_log(h, rows, names, counts, bytes, head),
         Message::Proposal(head, priority) => {
-            take_proposal(
-                h, proposed, priorities, names, counts, bytes, head, priority,
-            )
+            take_proposal(h, rows, names, counts, bytes, head, priority)
         }
     }
 }

@@ -17,71 +17,75 @@ mod seeing;
 mod totals;
 
 ghost use Rattle.bench.specs.Calendar.{view_of, place_in, act_at};
-ghost use Rattle.bench.specs.Record.{bench_of, beat_of};
+ghost use Rattle.std.specs.Prelude.{◌≡◌};
+ghost use Rattle.bench.specs.Record.{bench_of, bench_with, beat_of};
 ghost use Rattle.bench.specs.ByRecord.{open_of, begin_of, receive_of, act_of, find_of};
-ghost use Rattle.bench.specs.Answers.{lent_as, core_with, state_of, OpenGives, BeginGives, ReceiveGives, ActGives, FindGives};
+ghost use Rattle.bench.specs.Answers.{lent_as, core_with, state_of, offered, OpenGives, BeginGives, ReceiveGives, ActGives, FindGives};
 ghost use Rattle.bench.specs.Support.{SupportGives};
 
-use bench::{Acted, Bench, Counted, Entry, Received, Start, Started};
+use agreement::{Answer, Given};
+use bench::{Bench, Counted, Entry, Head, Made, Offer, Refusal, Rows};
 use limits::{is_out_of_range, is_short};
 use record::fresh;
 
 // Open: a fresh bench. Refused: 7, 8; the record beside a refusal is of no bench.
-pub fn open(n: u8, own: u8, names: &[u64], counts: &[u16], totals: &[u32]) -> Started
+pub fn open(
+    n: u8,
+    own: u8,
+    names: &[u64],
+    counts: &[u16],
+    totals: &[u32],
+) -> Given<Result<(), Refusal>, Bench>
     ensures { OpenGives (open_of n own (lent_as names.now counts.now totals.now))
-        (lent_as names.now counts.now totals.now) result.answer (bench_of result.bench) names.now
+        (lent_as names.now counts.now totals.now) result.answer (bench_of result.after) names.now
         counts.now totals.now }
 {
     if is_out_of_range(n, own) {
-        return Started {
-            answer: Start::Refused(7),
-            bench: fresh(0, 0),
+        return Given {
+            answer: Err(Refusal::Numbers),
+            after: fresh(0, 0),
         };
     }
     if is_short(names, counts, totals) {
-        return Started {
-            answer: Start::Refused(8),
-            bench: fresh(0, 0),
+        return Given {
+            answer: Err(Refusal::Lists),
+            after: fresh(0, 0),
         };
     }
-    Started {
-        answer: Start::Done,
-        bench: fresh(n, own),
+    Given {
+        answer: Ok(()),
+        after: fresh(n, own),
+    }
+}
+
+// The record put together again, from its rows and the head after a call.
+fn whole<A: Copy>(rows: Rows, given: Given<A, Head>) -> Given<A, Bench>
+    ensures answer { result.answer ≡ given.answer }
+    ensures after { bench_of result.after ≡ bench_with given.after rows }
+{
+    Given {
+        answer: given.answer,
+        after: Bench {
+            rows,
+            head: given.after,
+        },
     }
 }
 
 // Begin: the gathering of a beat starts. Refused: 9, 8, 9 by the totals, 10, 20.
-pub fn begin(bench: Bench, names: &[u64], counts: &[u16], totals: &[u32], beat: u32) -> Started
+pub fn begin(
+    bench: Bench,
+    names: &[u64],
+    counts: &[u16],
+    totals: &[u32],
+    beat: u32,
+) -> Given<Result<(), Refusal>, Bench>
     ensures { BeginGives (begin_of (state_of bench names.now counts.now totals.now) beat) result.answer
-        (bench_of result.bench) names.now counts.now totals.now }
+        (bench_of result.after) names.now counts.now totals.now }
 {
-    let mut even = bench.even;
-    let mut odd = bench.odd;
-    let mut proposed = bench.proposed;
-    let mut priorities = bench.priorities;
-    let r = parts::begin(
-        bench.head,
-        &mut even,
-        &mut odd,
-        &mut proposed,
-        &mut priorities,
-        names,
-        counts,
-        totals,
-        beat,
-    );
-    let answer = r.answer;
-    let head = r.head;
-    Started {
-        answer,
-        bench: Bench {
-            priorities,
-            head,
-            even,
-            odd,
-            proposed,
-        },
-    }
+    let mut rows = bench.rows;
+    let given = parts::begin(bench.head, &mut rows, names, counts, totals, beat);
+    whole(rows, given)
 }
 
 // Receive: a message is filed. Refused: 9, 8, 9 by the totals, 22, 1 to 6, 21.
@@ -91,38 +95,14 @@ pub fn receive(
     counts: &mut [u16],
     totals: &[u32],
     message: &[u8],
-) -> Received
+) -> Given<Result<Answer, Refusal>, Bench>
     ensures { ReceiveGives
         (receive_of (state_of bench names.old counts.old totals.now) message.now) result.answer
-        (bench_of result.bench) names.new counts.new totals.now }
+        (bench_of result.after) names.new counts.new totals.now }
 {
-    let mut even = bench.even;
-    let mut odd = bench.odd;
-    let mut proposed = bench.proposed;
-    let mut priorities = bench.priorities;
-    let r = parts::receive(
-        bench.head,
-        &mut even,
-        &mut odd,
-        &mut proposed,
-        &mut priorities,
-        names,
-        counts,
-        totals,
-        message,
-    );
-    let answer = r.answer;
-    let head = r.head;
-    Received {
-        answer,
-        bench: Bench {
-            priorities,
-            head,
-            even,
-            odd,
-            proposed,
-        },
-    }
+    let mut rows = bench.rows;
+    let given = parts::receive(bench.head, &mut rows, names, counts, totals, message);
+    whole(rows, given)
 }
 
 // Act: the gathering ends, and what the calendar asks at its beat is done; an offered block, of name zero where there is none,
@@ -133,58 +113,29 @@ pub fn act(
     counts: &mut [u16],
     totals: &mut [u32],
     out: &mut [u8],
-    name: u64,
-    count: u16,
-    priority: u64,
-) -> Acted
+    offer: Offer,
+) -> Given<Result<Made, Refusal>, Bench>
     ensures { ActGives
-        (act_of (state_of bench names.old counts.old totals.old) (record { name = name; count = count })
-        priority out.old) result.answer (bench_of result.bench) names.new counts.new totals.new
-        out.new }
+        (act_of (state_of bench names.old counts.old totals.old) (offered offer) offer.priority out.old)
+        result.answer (bench_of result.after) names.new counts.new totals.new out.new }
 {
-    let mut even = bench.even;
-    let mut odd = bench.odd;
-    let mut proposed = bench.proposed;
-    let mut priorities = bench.priorities;
-    let r = parts::act(
-        bench.head,
-        &mut even,
-        &mut odd,
-        &mut proposed,
-        &mut priorities,
-        names,
-        counts,
-        totals,
-        out,
-        name,
-        count,
-        priority,
-    );
-    let answer = r.answer;
-    let head = r.head;
-    Acted {
-        answer,
-        bench: Bench {
-            priorities,
-            head,
-            even,
-            odd,
-            proposed,
-        },
-    }
+    let mut rows = bench.rows;
+    let given = parts::act(bench.head, &mut rows, names, counts, totals, out, offer);
+    whole(rows, given)
 }
 
 // Find: where the entry of a number stands in the decided log. Nothing changes. Refused: 9, 8, 9 by the totals, 23.
-pub fn find(bench: Bench, names: &[u64], counts: &[u16], totals: &[u32], entry: u32) -> Entry
+pub fn find(
+    bench: Bench,
+    names: &[u64],
+    counts: &[u16],
+    totals: &[u32],
+    entry: u32,
+) -> Result<Entry, Refusal>
     ensures { FindGives (find_of (state_of bench names.now counts.now totals.now) entry) result
         names.now counts.now totals.now }
 {
-    let even = bench.even;
-    let odd = bench.odd;
-    let proposed = bench.proposed;
-    parts::find(
-        bench.head, &even, &odd, &proposed, names, counts, totals, entry,
-    )
+    parts::find(bench.head, &bench.rows, names, counts, totals, entry)
 }
 
 // What the act of the record's beat reads of the agreement before. It is no call: nothing is refused, and nothing changes.
@@ -192,7 +143,5 @@ pub fn support(bench: Bench, names: &[u64], counts: &[u16]) -> Counted
     ensures { SupportGives (core_with (bench_of bench) names.now counts.now) (view_of (beat_of (bench_of bench)))
         (act_at (place_in (beat_of (bench_of bench)))) result }
 {
-    let even = bench.even;
-    let odd = bench.odd;
-    parts::support(bench.head, &even, &odd, names, counts)
+    parts::support(bench.head, &bench.rows, names, counts)
 }

@@ -1,17 +1,17 @@
 // Refusals 7, 8 and 9, the last by the totals too. What a record within its limits is stands in crate bench (specs/Record.antt); all
 // 32 places of each array are looked at.
-ghost use Rattle.std.specs.Prelude.{◌≡◌, ◌||◌, ltb, []};
+ghost use Rattle.std.specs.Prelude.{◌≡◌, ◌||◌, ltb};
 ghost use Rattle.message.specs.Limits.{last_view};
 ghost use Rattle.bench.specs.Layout.{out_of_range, short_lists};
-ghost use Rattle.bench.specs.Record.{bench_from, any_place, names_beyond, beyond};
-ghost use Rattle.bench.specs.Answers.{lent_as};
-ghost use Rattle.calls.specs.Steps.{bad_sets, Limited, JudgesBy};
+ghost use Rattle.bench.specs.Record.{bench_with, any_place, names_beyond, beyond};
+ghost use Rattle.bench.specs.Answers.{lent_as, held_with};
+ghost use Rattle.calls.specs.Steps.{bad_sets, Judges};
 
 use super::totals::are_unlike;
 use agreement::sets::{exceeds, meet, reaches};
 use agreement::tally::are_over;
 use agreement::{MOST_SENDERS, Marks, Shown};
-use bench::{Head, LAST_BEAT, LEAST_LENT};
+use bench::{Head, LAST_BEAT, LEAST_LENT, Refusal, Rows};
 use message::{LAST_VIEW, MOST_BLOCKS};
 
 // n or the own number is out of range.
@@ -52,38 +52,38 @@ fn is_beyond_proposals(g: Shown, n: u8) -> bool
 }
 
 // The record is beyond its limits. Priorities have none.
-pub(crate) fn is_beyond(h: Head, even: &[u8; 32], odd: &[u8; 32], proposed: &[u8; 32]) -> bool
-    ensures { result ≡ beyond (bench_from h even.now odd.now proposed.now []) }
+pub(crate) fn is_beyond(h: Head, rows: &Rows) -> bool
+    ensures { result ≡ beyond (bench_with h rows.now) }
 {
     let n = h.n;
     is_out_of_range(n, h.own)
         | ((LAST_BEAT + 1 < h.next)
             | ((MOST_BLOCKS < h.decided as usize)
-                | (are_over(even, odd, proposed, MOST_BLOCKS)
+                | (are_over(&rows.even, &rows.odd, &rows.proposed, MOST_BLOCKS)
                     | (is_beyond_agreement(h.even, n)
                         | (is_beyond_agreement(h.odd, n) | is_beyond_proposals(h.shown, n))))))
 }
 
-// What every call on a record is refused by: 9, 8, 9 by the totals, the first of them that is so; 0 where none is. It is handed whether
-// the record is beyond its limits and its decided length, and not the head, which would be copied for it.
-pub(crate) fn record_refusal(
-    beyond: bool,
-    decided: u16,
+// What every call on a record is refused by: 9, 8, 9 by the totals, the first of them that is so. It is put into each call, so that
+// the head is not copied for it.
+#[inline(always)]
+pub(crate) fn judge(
+    h: Head,
+    rows: &Rows,
     names: &[u64],
     counts: &[u16],
     totals: &[u32],
-) -> u8
-    requires { Limited beyond decided }
-    ensures { JudgesBy beyond decided names.now counts.now totals.now result }
+) -> Result<(), Refusal>
+    ensures { Judges (held_with (bench_with h rows.now) names.now counts.now totals.now) result }
 {
-    if beyond {
-        return 9;
+    if is_beyond(h, rows) {
+        return Err(Refusal::Record);
     }
     if is_short(names, counts, totals) {
-        return 8;
+        return Err(Refusal::Lists);
     }
-    if are_unlike(counts, totals, decided) {
-        return 9;
+    if are_unlike(counts, totals, h.decided) {
+        return Err(Refusal::Record);
     }
-    0
+    Ok(())
 }

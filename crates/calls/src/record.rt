@@ -1,5 +1,6 @@
-// The record in its parts: a head of numbers, and the arrays beside it. Fresh, and what it has of a view.
+// The record in its parts: a head of numbers, and the rows beside it. Fresh, and what it has of a view.
 ghost use Rattle.std.specs.Prelude.{◌≡◌};
+ghost use Rattle.message.specs.Choice.{pick};
 ghost use Rattle.agreement.specs.Record.{agreement_from};
 ghost use Rattle.agreement.specs.Proposals.{proposals_from};
 ghost use Rattle.bench.specs.Layout.{is_even, logs_place};
@@ -7,7 +8,7 @@ ghost use Rattle.bench.specs.Record.{bench_of, fresh_bench, of_view, proposed_in
 ghost use Rattle.calls.specs.Steps.{bare};
 
 use agreement::{Marks, Shown};
-use bench::{Bench, Head, ODD_PLACE};
+use bench::{Bench, Head, ODD_PLACE, Rows};
 
 // Nothing filed, no beat begun, nothing decided.
 pub(crate) fn fresh(n: u8, own: u8) -> Bench
@@ -24,13 +25,13 @@ pub(crate) fn fresh(n: u8, own: u8) -> Bench
         odd: agreement::empty(0),
         shown: agreement::proposing::empty(0),
     };
-    Bench {
+    let rows = Rows {
         priorities: [0; 32],
-        head,
         even: [0; 32],
         odd: [0; 32],
         proposed: [0; 32],
-    }
+    };
+    Bench { rows, head }
 }
 
 // No gathering is under way.
@@ -74,6 +75,26 @@ pub(crate) fn logs_place(v: u32) -> u32
     ODD_PLACE
 }
 
+// The agreement in the slot of a view's parity: its marks, and the blocks of its logs. Kept as two tests: one of any type would be no
+// shorter.
+pub(crate) fn marks_of(h: Head, v: u32) -> Marks
+    ensures { result ≡ pick (is_even v) h.even h.odd }
+{
+    if is_even(v) {
+        return h.even;
+    }
+    h.odd
+}
+
+pub(crate) fn lengths_of(rows: &Rows, v: u32) -> &[u8; 32]
+    ensures { result.now ≡ pick (is_even v) rows.now.even rows.now.odd }
+{
+    if is_even(v) {
+        return &rows.even;
+    }
+    &rows.odd
+}
+
 // The slot's agreement where it is of view v; else of view v nothing is filed.
 pub(crate) fn of_view(g: Marks, lengths: &mut [u8; 32], v: u32) -> Marks
     ensures { agreement_from result lengths.new ≡ of_view (agreement_from g lengths.old) v }
@@ -85,6 +106,7 @@ pub(crate) fn of_view(g: Marks, lengths: &mut [u8; 32], v: u32) -> Marks
     agreement::empty(v)
 }
 
+// The same of the proposals. Kept beside it: their priorities are cleared too, and a trait for both would be longer than the two.
 pub(crate) fn shown_of(
     g: Shown,
     lengths: &mut [u8; 32],

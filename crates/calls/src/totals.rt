@@ -4,44 +4,42 @@ ghost use Rattle.message.specs.Numbers.{part, put};
 ghost use Rattle.bench.specs.Totals.{totals_from, unlike};
 ghost use Rattle.calls.specs.TotalSteps.{decided_counts, Walkable, Writable, Extensible, Rising, entry_among};
 
-use bench::{DECIDED_PLACE, Entry};
+use bench::{DECIDED_PLACE, Entry, Refusal};
 
-// A total below the decided length is not the sum of the counts through its block.
+// A total below the decided length is not the sum of the counts through its block. Kept by index, here and in
+// `write_totals`: two lists go in step.
 pub(crate) fn are_unlike(counts: &[u16], totals: &[u32], decided: u16) -> bool
     requires { Walkable counts.now totals.now decided }
     ensures { result ≡ unlike (totals_from 0 (decided_counts counts.now decided)) totals.now }
 {
-    let k = decided as usize;
     let mut sum = 0;
-    let mut i = 0;
-    while i < k {
-        sum += counts[DECIDED_PLACE + i] as u32;
-        if totals[i] == sum {
-            i += 1;
-        } else {
+    for i in 0..decided as usize {
+        sum += u32::from(counts[DECIDED_PLACE + i]);
+        if totals[i] != sum {
             return true;
         }
     }
     false
 }
 
-// Where an entry is, by the totals of the decided blocks; 23 where they do not hold it.
-pub(crate) fn find_in(totals: &[u32], decided: u16, entry: u32) -> Entry
+// Where an entry is, by the totals of the decided blocks. Refused: 23, where they do not hold it. Kept by index: over the part of the list
+// its goals did not close.
+pub(crate) fn find_in(totals: &[u32], decided: u16, entry: u32) -> Result<Entry, Refusal>
     requires { Rising totals.now decided }
     ensures { result ≡ entry_among 0 0 (part totals.now 0 decided) entry }
 {
-    let k = decided as usize;
     let mut before = 0;
-    let mut i = 0;
-    while i < k {
+    for i in 0..decided as usize {
         let total = totals[i];
         if entry < total {
-            return Entry::At(i as u8, (entry - before) as u16);
+            return Ok(Entry {
+                block: i as u8,
+                inside: (entry - before) as u16,
+            });
         }
         before = total;
-        i += 1;
     }
-    Entry::Refused(23)
+    Err(Refusal::NoEntry)
 }
 
 // The total of the first k blocks.
@@ -60,13 +58,10 @@ fn write_totals(counts: &[u16], totals: &mut [u32], before: u32)
     requires { Writable counts.now totals.old before }
     ensures { totals.new ≡ put totals.old 0 (totals_from before counts.now) }
 {
-    let k = counts.len();
     let mut sum = before;
-    let mut i = 0;
-    while i < k {
-        sum += counts[i] as u32;
+    for i in 0..counts.len() {
+        sum += u32::from(counts[i]);
         totals[i] = sum;
-        i += 1;
     }
 }
 

@@ -1,43 +1,39 @@
 // What a fresh bench answers at a beat: which messages it takes, and which snapshot its act stores.
-use super::answers::{NO, ODD, ONE, TWO};
-use super::replica::Replica;
+use super::answers::Answer;
+use super::replica::{Kind, Replica};
 use agreement::Marks;
 use bench::Head;
 
-pub(crate) fn taken(kind: usize, view: u32, beat: u32) -> usize {
-    let heard = Replica::fresh().begin(beat).receive(kind, view);
-    heard.answer
+pub(crate) fn taken(kind: Kind, view: u32, beat: u32) -> Answer {
+    let mut replica = Replica::fresh();
+    match replica.begin(beat) {
+        Ok(()) => replica.receive(kind, view),
+        Err(_) => Answer::Odd,
+    }
 }
 
 // The place of a view's agreement in the record.
 fn slot(head: Head, view: u32) -> Marks {
-    if view % 2 == 0 {
-        return head.even;
-    }
-    head.odd
+    if view % 2 == 0 { head.even } else { head.odd }
 }
 
-fn stored(g: Marks, view: u32) -> usize {
+fn stored(g: Marks, view: u32) -> Answer {
     if g.view != view {
-        return NO;
+        return Answer::No;
     }
-    if g.one.taken != 0 {
-        if g.two.taken != 0 {
-            return ODD;
-        }
-        return ONE;
+    match (g.one.taken, g.two.taken) {
+        (0, 0) => Answer::No,
+        (_, 0) => Answer::One,
+        (0, _) => Answer::Two,
+        _ => Answer::Odd,
     }
-    if g.two.taken != 0 {
-        return TWO;
-    }
-    NO
 }
 
 // Which snapshot of the view's agreement the act of this beat stores.
-pub(crate) fn snapshot(view: u32, beat: u32) -> usize {
-    let deed = Replica::fresh().begin(beat).act();
-    if deed.made == ODD {
-        return ODD;
+pub(crate) fn snapshot(view: u32, beat: u32) -> Answer {
+    let mut replica = Replica::fresh();
+    if replica.begin(beat).is_err() || replica.act().is_none() {
+        return Answer::Odd;
     }
-    stored(slot(deed.replica.bench.head, view), view)
+    stored(slot(replica.bench.head, view), view)
 }

@@ -1,102 +1,100 @@
 // What the act of a beat reads, makes, decides and stores, sought among the views near that of the beat.
-use super::answers::{EMPTY_LOG, LOG, NO, ODD, PROPOSAL};
+use super::answers::{Answer, Mark};
+use super::asking::snapshot;
 use super::beats::{beat_of, moved};
-use super::cells::{GRADE, SNAPSHOT, answer, lacking};
-use super::way::did;
+use super::cells::{grade, lacking};
+use super::replica::Deed;
+use super::way::Way;
 
-// An answer, and the view it is of.
-#[derive(Clone, Copy)]
-pub(crate) struct Mark {
-    pub(crate) answer: usize,
-    pub(crate) view: u32,
-}
-
-#[derive(Clone, Copy)]
+#[derive(Clone, Copy, PartialEq, Eq)]
 pub(crate) struct Line {
-    pub(crate) reads: Mark,
+    pub(crate) reads: Option<Mark>,
     // what it does without snapshot one, and without two, of what it reads
-    pub(crate) one: usize,
-    pub(crate) two: usize,
-    pub(crate) makes: Mark,
+    pub(crate) one: Answer,
+    pub(crate) two: Answer,
+    pub(crate) makes: Option<Mark>,
     pub(crate) decides: bool,
-    pub(crate) stores: Mark,
+    pub(crate) stores: Option<Mark>,
 }
 
 // The views of a line are counted from so many before v, and 0 is none.
 pub(crate) const NEAR: u32 = 3;
 
 // An act that reads, or stores, of two agreements fits no case.
-fn joined(found: Mark, answer: usize, view: u32) -> Mark {
-    if answer == NO {
+fn joined(found: Option<Mark>, answer: Answer, view: u32) -> Option<Mark> {
+    if answer == Answer::No {
         return found;
     }
-    if found.answer == NO {
-        return Mark { answer, view };
-    }
-    Mark { answer: ODD, view }
+    let answer = if found.is_none() { answer } else { Answer::Odd };
+    Some(Mark { answer, view })
 }
 
-// What the act has in this row of the two views before v, of v and of the next.
-fn find(row: u32, v: u32, beat: u32) -> Mark {
-    let end = moved(v, 2, 0);
-    let mut found = Mark {
-        answer: NO,
-        view: v,
-    };
-    for view in moved(v, 0, 2)..end {
-        found = joined(found, answer(row, view, beat), view);
+// What the act has by this answer of the two views before v, of v and of the next.
+fn find<F: Fn(u32) -> Answer>(v: u32, answer: F) -> Option<Mark>
+    requires { F.IsAlwaysCallable answer }
+{
+    let mut found = None;
+    for view in moved(v, 0, 2)..moved(v, 2, 0) {
+        found = joined(found, answer(view), view);
     }
     found
 }
 
-// What is made of the empty log.
-const LOG_OF_NONE: usize = LOG;
-
-const PROPOSAL_OF_ONE: usize = PROPOSAL + 1;
-
-// The log read where nobody was heard shows in the message made.
-fn read(found: usize, made: usize) -> usize {
-    if found != NO {
-        return found;
+// What fits no case is of view 0.
+fn made(deed: Option<Deed>) -> Option<Mark> {
+    match deed {
+        Some(deed) => deed.made,
+        None => Some(Mark {
+            answer: Answer::Odd,
+            view: 0,
+        }),
     }
-    match made {
-        NO => NO,
-        LOG_OF_NONE | PROPOSAL_OF_ONE => EMPTY_LOG,
-        _ => ODD,
-    }
+}
+
+// The log read where nobody was heard shows in the message made: it is made of the empty log.
+fn unheard(made: Option<Mark>, v: u32) -> Option<Mark> {
+    let answer = match made?.answer {
+        Answer::Log(0) | Answer::Proposal(1) => Answer::EmptyLog,
+        _ => Answer::Odd,
+    };
+    Some(Mark { answer, view: v })
 }
 
 // Counted from v, so that the lines of two views can be compared.
-fn counted(v: u32, answer: usize, view: u32) -> Mark {
-    if answer == NO {
-        return Mark { answer, view: 0 };
-    }
-    Mark {
-        answer,
-        view: moved(view, NEAR, v),
-    }
+fn counted(v: u32, mark: Option<Mark>) -> Option<Mark> {
+    mark.map(|m| Mark {
+        view: moved(m.view, NEAR, v),
+        ..m
+    })
 }
 
 // Where nothing is read, no snapshot matters.
-fn lacked(found: Mark, one: bool, two: bool, beat: u32) -> usize {
-    if found.answer == NO {
-        return NO;
+fn lacked(found: Option<Mark>, lacks: Way, beat: u32) -> Answer {
+    match found {
+        Some(_) => lacking(lacks, beat),
+        None => Answer::No,
     }
-    lacking(found.view, one, two, beat)
 }
 
 // The act of column k of view v.
 pub(crate) fn line_at(v: u32, k: u32) -> Line {
     let beat = beat_of(v, k);
-    let reads = find(GRADE, v, beat);
-    let stores = find(SNAPSHOT, v, beat);
-    let deed = did(reads.view, reads.answer != NO, true, true, false, beat);
+    let reads = find(v, |view| grade(view, beat));
+    let stores = find(v, |view| snapshot(view, beat));
+    let heard = Way::heard(reads.map_or(v, |m| m.view));
+    let way = if reads.is_some() {
+        heard
+    } else {
+        heard.without_log()
+    };
+    let deed = way.deed(beat);
+    let makes = made(deed);
     Line {
-        reads: counted(v, read(reads.answer, deed.made), reads.view),
-        one: lacked(reads, false, true, beat),
-        two: lacked(reads, true, false, beat),
-        makes: counted(v, deed.made, deed.view),
-        decides: deed.decides,
-        stores: counted(v, stores.answer, stores.view),
+        reads: counted(v, reads.or(unheard(makes, v))),
+        one: lacked(reads, heard.without_one(), beat),
+        two: lacked(reads, heard.without_two(), beat),
+        makes: counted(v, makes),
+        decides: deed.is_some_and(|d| d.decides),
+        stores: counted(v, stores),
     }
 }

@@ -14,29 +14,28 @@ mod requests;
 mod way;
 mod words;
 
-use script::{clause_at, read_full};
+use script::{Clauses, read_full};
 use std::io;
+use words::Words;
 
 // Twice as long as the script, so that lines can be added; what does not fit is not read.
 const MOST: usize = 8192;
 
 // A clause with a capital letter is a word, to be written with the answers.
-fn run(rt: &impl Print, script: &[u8]) -> io::Result<()> {
-    let mut at = 0;
-    while at < script.len() {
-        let c = clause_at(script, at);
-        if c.capital == 0 {
-            c.write(rt, script)?;
-            requests::take(rt, script, c)?;
+fn run(rt: &impl Print, script: Clauses) -> io::Result<()> {
+    let words = Words { rt, script };
+    for c in script {
+        if c.capital().is_none() {
+            c.write(rt)?;
+            words.take(c)?;
             c.write_end(rt)?;
         }
-        at = c.next;
     }
     Ok(())
 }
 
 fn main(rt: HostRuntime) -> io::Result<()> {
     let mut space = [0u8; MOST];
-    let length = read_full(&mut rt.reader(), &mut space)?;
-    run(&rt, &space[..length])
+    let script = read_full(&mut rt.reader(), &mut space)?;
+    run(&rt, Clauses::new(script))
 }

@@ -1,29 +1,31 @@
 // What a clause asks for, by its first letter; each number by the letter before it.
-use super::answers::LOG;
 use super::asking::taken;
 use super::beats::moved;
-use super::comparing::{FIRST, say_comparison};
-use super::words::{say_cells, say_line, say_word};
-use script::{Clause, say};
+use super::comparing::FIRST;
+use super::replica::Kind;
+use super::words::{Views, Words};
+use script::Clause;
 use std::io;
 
-// Whether this is the last view is asked too.
-fn say_doubt(rt: &impl Print, script: &[u8], view: u32) -> io::Result<()> {
-    say_word(rt, script, b'L', taken(LOG, view, 0))?;
-    say_word(rt, script, b'N', taken(LOG, moved(view, 1, 0), 0))?;
-    Ok(())
-}
+impl<'a, P: Print> Words<'a, P> {
+    // Whether this is the last view is asked too.
+    fn say_doubt(&self, view: u32) -> io::Result<()> {
+        self.say(b'L', taken(Kind::Log, view, 0).into())?;
+        self.say(b'N', taken(Kind::Log, moved(view, 1, 0), 0).into())?;
+        Ok(())
+    }
 
-pub(crate) fn take(rt: &impl Print, script: &[u8], c: Clause) -> io::Result<()> {
-    let word = c.word;
-    let number = c.long(b't');
-    match word {
-        b'n' => say(rt, b"\n"),
-        b'c' => say_cells(rt, script, FIRST, number),
-        b'a' => say_line(rt, script, false, FIRST, number),
-        b'b' => say_line(rt, script, true, number / 4, number % 4),
-        b'o' => say_comparison(rt, script, c),
-        b'l' => say_doubt(rt, script, number),
-        _ => Ok(()),
+    // Kept as a match on letters: the script says them.
+    pub(crate) fn take(&self, c: Clause) -> io::Result<()> {
+        let number = c.long(b't');
+        match c.word() {
+            Some(b'n') => print!(self.rt; "\n"),
+            Some(b'c') => self.say_cells(FIRST, number),
+            Some(b'a') => self.say_line(Views::Counted, FIRST, number),
+            Some(b'b') => self.say_line(Views::Numbered(number / 4), number / 4, number % 4),
+            Some(b'o') => self.say_comparison(c),
+            Some(b'l') => self.say_doubt(number),
+            _ => Ok(()),
+        }
     }
 }

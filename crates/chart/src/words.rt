@@ -1,98 +1,89 @@
 // Writing the answers, by the words of the script.
+use super::answers::Mark;
 use super::beats::{beat_of, moved};
 use super::cells::{COLUMNS, cell};
-use super::lines::{Mark, NEAR, line_at};
+use super::lines::{NEAR, line_at};
 use super::replica::Replica;
-use script::{clause_at, say, say_number};
+use script::Clauses;
 use std::io;
 
-// Writes the word of a column for this answer, and gives the width that stands with it.
-pub(crate) fn say_word(
-    rt: &impl Print,
-    script: &[u8],
-    column: u8,
-    answer: usize,
-) -> io::Result<usize> {
-    let mut at = 0;
-    while at < script.len() {
-        let c = clause_at(script, at);
-        if (c.capital == column) & (c.place(column) == answer) {
-            c.write(rt, script)?;
-            return Ok(c.place(b'w'));
-        }
-        at = c.next;
-    }
-    say(rt, b"?")?;
-    Ok(0)
+// The clauses whose words the answers are written by, and where they are written to.
+#[derive(Drop)]
+pub(crate) struct Words<'a, P> {
+    pub(crate) rt: &'a P,
+    pub(crate) script: Clauses<'a>,
+}
+
+// How the views of a line, which are counted from near v, are written: as counted, or by number, where v is this.
+#[derive(Clone, Copy)]
+pub(crate) enum Views {
+    Counted,
+    Numbered(u32),
 }
 
 // How many digits a number is written with.
 fn digits_of(x: u32) -> usize {
-    match x.checked_ilog10() {
-        Some(power) => power as usize + 1,
-        None => 1,
-    }
+    x.checked_ilog10().map_or(1, |power| power as usize + 1)
 }
 
-// The view, counted from v or by its number; gives its width.
-fn say_view(
-    rt: &impl Print,
-    script: &[u8],
-    by_number: bool,
-    v: u32,
-    view: u32,
-) -> io::Result<usize> {
-    if by_number {
-        let number = moved(v, view, NEAR);
-        say_number(rt, number as u64)?;
-        return Ok(digits_of(number));
+impl<'a, P: Print> Words<'a, P> {
+    // Writes the word of a column for this answer, and gives the width that stands with it.
+    pub(crate) fn say(&self, column: u8, answer: usize) -> io::Result<usize> {
+        for c in self.script {
+            if c.capital() == Some(column) && c.place(column) == answer {
+                c.write(self.rt)?;
+                return Ok(c.place(b'w'));
+            }
+        }
+        print!(self.rt; "?")?;
+        Ok(0)
     }
-    say_word(rt, script, b'V', view as usize)
-}
 
-// The word, and the view behind it where it has a width for it.
-fn say_mark(
-    rt: &impl Print,
-    script: &[u8],
-    column: u8,
-    mark: Mark,
-    by_number: bool,
-    v: u32,
-) -> io::Result<()> {
-    let width = say_word(rt, script, column, mark.answer)?;
-    if 0 < width {
-        let k = say_view(rt, script, by_number, v, mark.view)?;
-        if k <= width {
-            say_word(rt, script, b'P', width - k)?;
+    // Gives the width of the view.
+    fn say_view(&self, views: Views, view: u32) -> io::Result<usize> {
+        match views {
+            Views::Counted => self.say(b'V', view as usize),
+            Views::Numbered(v) => {
+                let number = moved(v, view, NEAR);
+                print!(self.rt; "{number}")?;
+                Ok(digits_of(number))
+            }
         }
     }
-    Ok(())
-}
 
-// The act of column k of view v, or that its beat does not begin.
-pub(crate) fn say_line(
-    rt: &impl Print,
-    script: &[u8],
-    by_number: bool,
-    v: u32,
-    k: u32,
-) -> io::Result<()> {
-    let begun = Replica::fresh().begin(beat_of(v, k));
-    if 0 < say_word(rt, script, b'B', begun.answer)? {
-        let line = line_at(v, k);
-        say_mark(rt, script, b'R', line.reads, by_number, v)?;
-        say_word(rt, script, b'W', line.one)?;
-        say_word(rt, script, b'W', line.two)?;
-        say_mark(rt, script, b'M', line.makes, by_number, v)?;
-        say_word(rt, script, b'D', line.decides as usize)?;
-        say_mark(rt, script, b'S', line.stores, by_number, v)?;
+    // The word, and the view behind it where it has a width for it. What is not there has the number and the view 0.
+    fn say_mark(&self, column: u8, mark: Option<Mark>, views: Views) -> io::Result<()> {
+        let (answer, view) = mark.map_or((0, 0), |m| (usize::from(m.answer), m.view));
+        let width = self.say(column, answer)?;
+        if 0 < width {
+            let k = self.say_view(views, view)?;
+            if k <= width {
+                self.say(b'P', width - k)?;
+            }
+        }
+        Ok(())
     }
-    Ok(())
-}
 
-pub(crate) fn say_cells(rt: &impl Print, script: &[u8], v: u32, row: u32) -> io::Result<()> {
-    for k in 0..COLUMNS {
-        say_word(rt, script, b'C', cell(v, row, k))?;
+    // The act of column k of view v, or that its beat does not begin.
+    pub(crate) fn say_line(&self, views: Views, v: u32, k: u32) -> io::Result<()> {
+        let begun = Replica::fresh().begin(beat_of(v, k));
+        let refusal = begun.err().map_or(0, u8::from);
+        if 0 < self.say(b'B', refusal.into())? {
+            let line = line_at(v, k);
+            self.say_mark(b'R', line.reads, views)?;
+            self.say(b'W', line.one.into())?;
+            self.say(b'W', line.two.into())?;
+            self.say_mark(b'M', line.makes, views)?;
+            self.say(b'D', line.decides.into())?;
+            self.say_mark(b'S', line.stores, views)?;
+        }
+        Ok(())
     }
-    Ok(())
+
+    pub(crate) fn say_cells(&self, v: u32, row: u32) -> io::Result<()> {
+        for k in 0..COLUMNS {
+            self.say(b'C', cell(v, row, k).into())?;
+        }
+        Ok(())
+    }
 }

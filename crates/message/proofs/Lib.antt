@@ -10,6 +10,7 @@ pub mod ListedLaws
 pub mod WrittenFields
 pub mod Acceptance
 pub mod Codec
+pub mod RefusalLaws
 pub mod ParsedLaws
 pub mod GoodLogs
 pub mod Examples

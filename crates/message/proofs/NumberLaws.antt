@@ -1,19 +1,26 @@
 -- Laws of little-endian numbers in bytes, each once, over the width and the place. Assumes nothing.
-use Prim.Native.Nat.{ℕ, zero, suc, ◌+◌, ◌*◌, ◌/◌, ◌%◌, ◌^◌, ◌≤◌, ◌<◌}
+use Prim.Native.Nat.{ℕ, zero, suc, ◌+◌, ◌-◌, ◌*◌, ◌/◌, ◌%◌, ◌^◌, ◌≤◌, ◌<◌}
 use native.Mathlib.Omega.{arith}
-use native.Mathlib.Nat.{pow-suc, mul-suc, mul-zero, div-lt_iff_lt-mul, zero-lt-suc}
+use native.Mathlib.Nat.{pow-suc, mul-suc, mul-zero, div-lt_iff_lt-mul, zero-lt-suc, div-div-eq-div-mul, div-one}
 use mathlib.Core.Path.{◌≡◌, refl, sym, ap, subst, ◌∙◌}
 use mathlib.Core.Bool.{Bool, true, false}
-use mathlib.Core.List.{List, [], ◌∷◌, ◌++◌, append_assoc}
-use borrow.Author.Tests.{le-leb, leb-true}
+use mathlib.Core.List.{List, [], ◌∷◌, ◌++◌, append_assoc, append-nil}
+use native.Mathlib.Numerals.{add-one}
+use borrow.Author.Tests.{le-leb}
+use borrow.Rule.Slice.PartMut.{put_mid}
 use lib.Dec.{leb}
 use lib.ListN.{length, get_or, drop, length-append}
 use lib.Seq.{drop_at}
-use Rattle.message.specs.Numbers.{AllBelow, part, number_at, number_in, numbers_at, bytes_for, bytes_for_each}
+use Rattle.std.specs.Int.{byte_at, bytes_low_first}
+use Rattle.message.specs.Numbers.{AllBelow, part, put, number_at, number_in, numbers_at, bytes_for, bytes_for_each}
 use Rattle.message.proofs.TestLaws.{either}
-use Rattle.message.proofs.PartLaws.{part-append, part_ext, part_at, part-drop, append_below}
+use Rattle.message.proofs.PartLaws.{slice_put, put-append, part-append, part_ext, part_at, part-drop, append_below}
 
 -- ---- lengths
+
+pub bytes_two : (x : ℕ) → bytes_for 2 x ≡ x % 256 ∷ x / 256 % 256 ∷ []
+unfolding bytes_for
+bytes_two x = refl
 
 pub bytes_four : (x : ℕ) → bytes_for 4 x ≡ x % 256 ∷ x / 256 % 256 ∷ x / 256 / 256 % 256 ∷ x / 256 / 256 / 256 % 256 ∷ []
 unfolding bytes_for
@@ -41,6 +48,30 @@ pub length_numbers : (w : ℕ) (s : List ℕ) (a k : ℕ) → length (numbers_at
 unfolding numbers_at
 length_numbers w s a zero = refl
 length_numbers w s a (suc k) = ap suc (length_numbers w s (a + w) k)
+
+-- ---- numbers, and one more
+
+pub numbers_more : (w : ℕ) (s : List ℕ) (p k : ℕ) → numbers_at w s p (k + 1) ≡ numbers_at w s p k ++ (number_at w s (p + w * k) ∷ [])
+unfolding numbers_at
+numbers_more w s p k = ap (numbers_at w s p) (add-one k) ∙ go p k
+  where
+    go : (p k : ℕ) → numbers_at w s p (suc k) ≡ numbers_at w s p k ++ (number_at w s (p + w * k) ∷ [])
+    go p zero = let e : p ≡ p + w * 0 = omega (arith, mul-zero w) in ap (λ (a : ℕ). number_at w s a ∷ []) e
+    go p (suc k) =
+        let e : p + w + w * k ≡ p + w * suc k = omega (arith, mul-suc w k) in
+        ap (λ (t : List ℕ). number_at w s p ∷ t) (go (p + w) k ∙ ap (λ (a : ℕ). numbers_at w s (p + w) k ++ (number_at w s a ∷ [])) e)
+
+pub bytes_more : (w : ℕ) (o o₀ o₁ xs : List ℕ) (p k x : ℕ) → length xs ≡ k → o₀ ≡ put o p (bytes_for_each w xs)
+    → o₁ ≡ put o₀ (p + w * k) (bytes_for w x) → o₁ ≡ put o p (bytes_for_each w (xs ++ (x ∷ [])))
+unfolding bytes_for_each
+bytes_more w o o₀ o₁ xs p k x n e₀ e₁ =
+    let l : length (bytes_for_each w xs) ≡ w * k = length_bytes_each w xs ∙ ap (λ (j : ℕ). w * j) n in
+    let f : bytes_for_each w (xs ++ (x ∷ [])) ≡ bytes_for_each w xs ++ bytes_for w x =
+    bytes_each_append w xs (x ∷ []) ∙ ap (λ (t : List ℕ). bytes_for_each w xs ++ t) (append-nil (bytes_for w x)) in
+    rw (e₁, e₀)
+    (sym (ap (put o p) f
+    ∙ put-append o p (bytes_for_each w xs) (bytes_for w x)
+    ∙ ap (λ (j : ℕ). put (put o p (bytes_for_each w xs)) (p + j) (bytes_for w x)) l))
 
 -- ---- a number, and numbers, depend on their bytes alone
 number_part : (w : ℕ) (l m : List ℕ) (a b : ℕ) → part l a w ≡ part m b w → number_at w l a ≡ number_at w m b
@@ -136,6 +167,39 @@ bytes_numbers w l a (suc k) h =
     let e : w + w * k ≡ w * suc k = omega (arith, mul-suc w k) in
     (λ i. bytes_number w l a h i ++ bytes_numbers w l (a + w) k h i) ∙ part-append l a w (w * k) ∙ ap (part l a) e
 
+-- ---- the library's bytes of a number
+
+bytes_from : (i k x : ℕ) → bytes_low_first i k x ≡ bytes_for k (x / 256 ^ i)
+unfolding bytes_for
+bytes_from i zero x = refl
+bytes_from i (suc k) x =
+    let e : x / 256 ^ suc i ≡ x / 256 ^ i / 256 = ap (λ (p : ℕ). x / p) (pow-suc 256 i) ∙ sym (div-div-eq-div-mul x (256 ^ i) 256) in
+    let b : byte_at i x ≡ x / 256 ^ i % 256 = byte i x in
+    let r = bytes_from (suc i) k x ∙ ap (bytes_for k) e in
+    λ j. b j ∷ r j
+  where
+    byte : (i x : ℕ) → byte_at i x ≡ x / 256 ^ i % 256
+    byte zero x = ap (λ (y : ℕ). y % 256) (sym (div-one x))
+    byte (suc i) x = refl
+
+bytes_are : (w x : ℕ) → bytes_low_first 0 w x ≡ bytes_for w x
+bytes_are w x = bytes_from 0 w x ∙ ap (bytes_for w) (div-one x)
+
+pub bytes_written : (w x : ℕ) (l : List ℕ) (a : ℕ) (ys : List ℕ) → a + w ≤ length l → ys ≡ bytes_low_first 0 w x
+    → put_mid a (a + w - a) l ys ≡ put l a (bytes_for w x)
+bytes_written w x l a ys h e =
+    let b = e ∙ bytes_are w x in
+    slice_put l a w ys (ap (λ (t : List ℕ). length t) b ∙ length_bytes w x) h ∙ ap (put l a) b
+
+-- a number by its lowest byte and the others
+pub number_next : (w : ℕ) (s : List ℕ) (a b : ℕ) → b ≡ a + 1 → number_at (suc w) s a ≡ get_or s a 0 + 256 * number_at w s b
+unfolding number_at
+number_next w s a b e = ap (λ (c : ℕ). get_or s a 0 + 256 * number_at w s c) (sym e)
+
+pub number_none : (s : List ℕ) (a : ℕ) → number_at 0 s a ≡ 0
+unfolding number_at
+number_none s a = refl
+
 -- ---- bounds
 
 pub bytes_below : (w x : ℕ) → AllBelow 256 (bytes_for w x)
@@ -180,9 +244,6 @@ module _ (w : ℕ) (s : List ℕ) (a : ℕ) where
       pow_positive (suc w) = rw (pow-suc 256 w) (omega (arith, pow_positive w))
 
   module _ (v : Bool) (e : v ≡ leb (a + w) (length s)) where
-    pub number_asks : v ≡ true → a + w ≤ length s
-    number_asks t = leb-true (a + w) (length s) (sym e ∙ t)
-
     pub number_found : (r : ℕ) → v ≡ true → r ≡ number_at w s a → r ≡ number_in w s a
     unfolding number_in
     number_found r t q = q ∙ rw (← e, t)

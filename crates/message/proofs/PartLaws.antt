@@ -2,11 +2,14 @@
 use Prim.Native.Nat.{ℕ, zero, suc, ◌+◌, ◌-◌, ◌≤◌, ◌<◌}
 use native.Mathlib.Omega.{arith}
 use mathlib.Core.Path.{◌≡◌, refl, sym, ap, ◌∙◌}
-use mathlib.Core.List.{List, [], ◌∷◌, ◌++◌}
+use mathlib.Core.List.{List, [], ◌∷◌, ◌++◌, map, append_assoc}
+use Rattle.std.proofs.lemmas.List.{map-id, drop-drop, length-take-le}
 use lib.Dec.{eqb, ltb}
-use lib.ListN.{length, get_or, set, drop, replicate, length-set, length-append, length-drop, get_or-append, get_or-eq_default}
-use lib.Seq.{get_or-set_same, get_or-set_other, set_comm, set_out, ext_get_or, get_or-drop, get_or-append-add}
+use lib.ListN.{length, get_or, set, take, drop, replicate, length-set, length-drop, get_or-eq_default}
+use lib.Seq.{sets, sets-eq, paste, drop-cons, get_or-set_same, get_or-set_other, set_comm, set_out, ext_get_or, get_or-drop}
 use borrow.Author.Tests.{ltb-true, ltb-false, eqb-true, eqb-false}
+use borrow.Rule.Slice.PartMut.{put_mid}
+use native.Mathlib.Numerals.{add-one}
 use Rattle.message.specs.Numbers.{AllBelow, part, put}
 use Rattle.message.proofs.TestLaws.{either}
 
@@ -138,22 +141,56 @@ part-put_below l a xs b k h = part_ext (put l a xs) l b b k (λ i q. put_below l
 pub part-put_above : (l : List ℕ) (a : ℕ) (xs : List ℕ) (b k : ℕ) → a + length xs ≤ b → part (put l a xs) b k ≡ part l b k
 part-put_above l a xs b k h = part_ext (put l a xs) l b b k (λ i q. put_above l a xs (b + i) (omega arith))
 
--- what is written at the front comes first, and the rest is as it was
+-- what is written, what stands before it, and the rest as it was
+put_sets : (l : List ℕ) (a : ℕ) (xs : List ℕ) → put l a xs ≡ sets l a xs
+unfolding put
+put_sets l a [] = refl
+put_sets l a (x ∷ xs) = ap (λ (b : ℕ). put (set l a x) b xs) (add-one a) ∙ put_sets (set l a x) (suc a) xs
+
+pub put_parts : (l : List ℕ) (a : ℕ) (xs : List ℕ) → a + length xs ≤ length l → put l a xs ≡ take a l ++ xs ++ drop (a + length xs) l
+put_parts l a xs h = put_sets l a xs ∙ sets-eq xs l a h
+
 pub put_front : (l xs : List ℕ) → length xs ≤ length l → put l 0 xs ≡ xs ++ drop (length xs) l
 put_front l xs h =
-    ext_get_or 0 (put l 0 xs) (xs ++ drop (length xs) l)
-    (let a = length-put l 0 xs in let b = length-append xs (drop (length xs) l) in let c = length-drop (length xs) l in omega arith)
-    (λ i r. either (ltb i (length xs))
-    (λ t. let k = ltb-true i (length xs) t in
-    let e : 0 + i ≡ i = omega arith in
-    ap (λ (j : ℕ). get_or (put l 0 xs) j 0) (sym e) ∙ put_in l 0 xs i k (omega arith) ∙ sym (get_or-append xs (drop (length xs) l) 0 i k))
-    (λ t. let k = ltb-false i (length xs) t in
-    let e : length xs + (i - length xs) ≡ i = omega arith in
-    put_above l 0 xs i (omega arith)
-    ∙ ap (λ (j : ℕ). get_or l j 0) (sym e)
-    ∙ sym (get_or-drop (length xs) l (i - length xs) 0)
-    ∙ sym (get_or-append-add xs (drop (length xs) l) (i - length xs) 0)
-    ∙ ap (λ (j : ℕ). get_or (xs ++ drop (length xs) l) j 0) e))
+    let e : 0 + length xs ≡ length xs = omega arith in
+    put_parts l 0 xs (omega arith) ∙ ap (λ (n : ℕ). xs ++ drop n l) e
+
+-- ---- parts as the library cuts them
+
+pub part_take : (l : List ℕ) (a k : ℕ) → a + k ≤ length l → part l a k ≡ take k (drop a l)
+unfolding part
+part_take l a zero h = refl
+part_take l a (suc k) h =
+    ap (λ (t : List ℕ). get_or l a 0 ∷ t) (part_take l (a + 1) k (omega arith) ∙ ap (λ (b : ℕ). take k (drop b l)) (add-one a))
+    ∙ ap (take (suc k)) (sym (drop-cons l a 0 (omega arith)))
+
+-- a slice of k places from a on
+pub slice_length : {A : Type 0} (l : List A) (a k : ℕ) → a + k ≤ length l → length (take (a + k - a) (drop a l)) ≡ k
+slice_length l a k h = length-take-le (a + k - a) (drop a l) (let d = length-drop a l in omega arith) ∙ omega arith
+
+pub slice_part : (l : List ℕ) (a k : ℕ) → a + k ≤ length l → map (λ (x : ℕ). x) (take (a + k - a) (drop a l)) ≡ part l a k
+slice_part l a k h =
+    let e : a + k - a ≡ k = omega arith in
+    map-id (take (a + k - a) (drop a l)) ∙ ap (λ (n : ℕ). take n (drop a l)) e ∙ sym (part_take l a k h)
+
+-- such a slice written over
+pub slice_put : (l : List ℕ) (a k : ℕ) (xs : List ℕ) → length xs ≡ k → a + k ≤ length l → put_mid a (a + k - a) l xs ≡ put l a xs
+slice_put l a k xs e h =
+    let n : a + (a + k - a) ≡ a + length xs = omega arith in
+    ap (λ (t : List ℕ). take a l ++ (xs ++ t)) (drop-drop (a + k - a) a l ∙ ap (λ (m : ℕ). drop m l) n)
+    ∙ sym (put_parts l a xs (omega arith) ∙ append_assoc (take a l) xs (drop (a + length xs) l))
+
+-- a slice copied to place b
+pub slice_copied : (l : List ℕ) (a b k : ℕ) → a + k ≤ length l → b + k ≤ length l
+    → paste l b (drop a l) (a + k - a) ≡ put l b (part l a k)
+slice_copied l a b k h g =
+    let e : a + k - a ≡ k = omega arith in
+    let n = length_part l a k in
+    let m : b + k ≡ b + length (part l a k) = omega arith in
+    let p = sym (part_take l a k h) in
+    ap (paste l b (drop a l)) e
+    ∙ (λ i. take b l ++ p i ++ drop (m i) l)
+    ∙ sym (put_parts l b (part l a k) (omega arith))
 
 -- ---- numbers below a bound
 

@@ -1,25 +1,29 @@
 -- Logs in the lent lists: a turn and the end of each walk that compares, and the answers of the public functions. Assumes nothing.
-use Prim.Native.Nat.{ℕ, zero, suc, ◌+◌, ◌-◌, ◌*◌, ◌<◌, ◌≤◌}
+use Prim.Native.Nat.{ℕ, zero, suc, min, ◌+◌, ◌-◌, ◌*◌, ◌<◌, ◌≤◌}
 use native.Mathlib.Omega.{arith}
-use mathlib.Core.List.{List, [], ◌∷◌}
-use mathlib.Core.Bool.{Bool, true, false, ◌&&◌, and-eq-true_iff}
+use mathlib.Core.List.{List, map}
+use Rattle.std.proofs.lemmas.List.{map-id}
+use borrow.Rule.Slice.PartMut.{put_mid}
+use lib.Seq.{paste}
+use mathlib.Core.Bool.{Bool, true, false, not, not-not, ◌&&◌, and-eq-true_iff}
 use mathlib.Core.Logic.{◌⊎◌, inl, inr}
-use mathlib.Core.Path.{◌≡◌, refl, sym, ap, subst, ◌∙◌}
+use mathlib.Core.Path.{◌≡◌, refl, sym, ap, ◌∙◌}
 use borrow.Author.Tests.{leb-true, leb-false, eqb-true, eqb-false, eq-eqb, ne_eqb}
 use lib.Dec.{leb, eqb}
-use lib.ListN.{length, get_or}
+use lib.ListN.{length, get_or, take, drop}
 use Rattle.message.specs.Limits.{most_blocks, head_length, name_width, count_width, block_width}
 use Rattle.message.specs.Choice.{pick}
 use Rattle.message.specs.Numbers.{part, put, number_at, numbers_at}
-use Rattle.message.specs.Logs.{Log, is_prefix, same_log, same_block, shared_length, in_step, names_of, counts_of}
+use Rattle.message.specs.Logs.{Block, Log, is_prefix, same_log, same_block, shared_length, in_step, names_of, counts_of}
 use Rattle.message.specs.Store.{block_at, log_at, within, holds_log, prefix_at, shared_at, matches_at, Stores, store_of, file_of, copy_of}
 use Rattle.message.specs.Message.{count_in, names_in, counts_in, blocks_in, log_in}
-use Rattle.message.specs.Asks.{TwoLogs, BytesAndLog, alike}
+use Rattle.message.specs.Asks.{BytesAndLog, alike}
 use Rattle.message.proofs.TestLaws.{either}
 use Rattle.message.proofs.LogLaws.{is_prefix_iff, same_log_iff, prefix_refl, prefix_length, shared_most, shared_covers}
 use Rattle.message.proofs.ListedLaws.{length_at_lem, names_at, counts_at, log_step, log_empty, within_of}
 use Rattle.message.proofs.Acceptance.{names_read, counts_in_lem, length_blocks}
-use Rattle.message.proofs.LoopLaws.{Copying}
+use Rattle.message.proofs.PartLaws.{slice_length, slice_part, slice_put, slice_copied}
+use Rattle.message.proofs.NumberLaws.{length_numbers}
 
 -- ---- the walk along two logs in the lists
 
@@ -36,46 +40,36 @@ shared_none : (names counts : List ℕ) (p q left : ℕ) → left ≤ 0 → shar
 unfolding shared_length
 shared_none names counts p q left h = let e = log_empty names counts p left h in λ i. shared_length (e i) (log_at names counts q left)
 
--- z is the whole, i blocks of k are passed, and the next stand at p and q
-pub record Walking (z : ℕ) (names counts : List ℕ) (p q i k : ℕ) : Type 0 where
-  pub places : TwoLogs names counts p q (k - i)
-  pub rest : z ≡ i + shared_length (log_at names counts p (k - i)) (log_at names counts q (k - i))
+-- how many blocks from places p and q on are alike before two differ, of the k - i that are left
+abbrev pub left_alike : List ℕ → List ℕ → ℕ → ℕ → ℕ → ℕ → ℕ
+left_alike names counts a b i k = shared_length (log_at names counts (a + i) (k - i)) (log_at names counts (b + i) (k - i))
 
-pub walk_starts : (names counts : List ℕ) (p q k : ℕ) → TwoLogs names counts p q k
-    → Walking (shared_length (log_at names counts p k) (log_at names counts q k)) names counts p q 0 k
-walk_starts names counts p q k w =
-    let e : k - 0 ≡ k = omega arith in
-    let f = ap (λ (j : ℕ). shared_length (log_at names counts p j) (log_at names counts q j)) e in
-    record { places = subst (TwoLogs names counts p q) (sym e) w; rest = omega arith }
+-- the test of two blocks, on what the code found of them
+pub unlike_is : (r : Bool) (n m c d : ℕ) (x y : Block) → r ≡ not (eqb n m && eqb c d) → (n ≡ x.name) × (c ≡ x.count)
+    → (m ≡ y.name) × (d ≡ y.count) → same_block x y ≡ not r
+unlike_is r n m c d x y e f g = rw (e, f.0, f.1, g.0, g.1) (sym (not-not (same_block x y)))
 
-module _ {z : ℕ} {names counts : List ℕ} {p q i k : ℕ} (w : Walking z names counts p q i k) where
-  module _ {r : Bool} (h : i < k) (s : r ≡ same_block (block_at names counts p) (block_at names counts q)) where
-    abbrev rest : ℕ
-    rest = shared_length (log_at names counts (p + 1) (k - i - 1)) (log_at names counts (q + 1) (k - i - 1))
-
-    turn : (t : Bool) → r ≡ t → shared_length (log_at names counts p (k - i)) (log_at names counts q (k - i)) ≡ pick t (suc rest) 0
-    turn t f = shared_step names counts p q (k - i) (omega arith) ∙ ap (λ (b : Bool). pick b (suc rest) 0) (sym s ∙ f)
-
-    pub walk_on : r ≡ true → Walking z names counts (p + 1) (q + 1) (i + 1) k
-    walk_on t =
-        let e = w.rest in
-        let f = turn true t in
+module _ (names counts : List ℕ) (a b k : ℕ) where
+  -- z is the whole, and i blocks of k are passed
+  module _ (z i : ℕ) (w : z ≡ i + left_alike names counts a b i k) where
+    turn : (t : Bool) → i < k → same_block (block_at names counts (a + i)) (block_at names counts (b + i)) ≡ t
+        → left_alike names counts a b i k ≡ pick t (suc (left_alike names counts a b (i + 1) k)) 0
+    turn t h e =
         let l : k - i - 1 ≡ k - (i + 1) = omega arith in
-        let g = ap (λ (j : ℕ). shared_length (log_at names counts (p + 1) j) (log_at names counts (q + 1) j)) l in
-        let a = w.places.first_name in
-        let b = w.places.second_name in
-        let c = w.places.first_count in
-        let d = w.places.second_count in
-        record {
-          places = record { first_name = omega arith; second_name = omega arith; first_count = omega arith; second_count = omega arith };
-          rest = omega arith;
-        }
+        let p : a + i + 1 ≡ a + (i + 1) = omega arith in
+        let q : b + i + 1 ≡ b + (i + 1) = omega arith in
+        shared_step names counts (a + i) (b + i) (k - i) (omega arith)
+        ∙ (λ j. pick (e j) (suc (shared_length (log_at names counts (p j) (l j)) (log_at names counts (q j) (l j)))) 0)
 
-    pub walk_off : r ≡ false → i ≡ z
-    walk_off t = let e = w.rest in let f = turn false t in omega arith
+    pub walk_on : i < k → same_block (block_at names counts (a + i)) (block_at names counts (b + i)) ≡ true
+        → z ≡ (i + 1) + left_alike names counts a b (i + 1) k
+    walk_on h e = let f = turn true h e in omega arith
 
-  pub walk_end : k ≤ i → i ≡ z
-  walk_end h = let e = w.rest in let f = shared_none names counts p q (k - i) (omega arith) in omega arith
+    pub walk_off : i < k → same_block (block_at names counts (a + i)) (block_at names counts (b + i)) ≡ false → i ≡ z
+    walk_off h e = let f = turn false h e in omega arith
+
+    pub walk_end : k ≤ i → i ≤ k → k ≡ z
+    walk_end h g = let f = shared_none names counts (a + i) (b + i) (k - i) (omega arith) in omega arith
 
 -- ---- prefix
 
@@ -123,26 +117,9 @@ not_longer names counts a x b y h = go (is_prefix (log_at names counts a x) (log
         absurd (omega arith)
 
 module _ (names counts : List ℕ) (a x b y : ℕ) (v w : Bool) (e : v ≡ within names counts a x) (f : w ≡ within names counts b y) where
-  -- the walk's places, for as many blocks as both logs have
-  asks : (k : ℕ) → (v && w) ≡ true → k ≤ x → k ≤ y → TwoLogs names counts a b k
-  asks k t h g =
-      let s = (and-eq-true_iff v w).0 t in
-      let m = within_of names counts a x (sym e ∙ s.0) in
-      let n = within_of names counts b y (sym f ∙ s.1) in
-      record { first_name = omega arith; second_name = omega arith; first_count = omega arith; second_count = omega arith }
-
-  pub first_asks : (v && w) ≡ true → x ≤ y → TwoLogs names counts a b x
-  first_asks t h = asks x t (omega arith) h
-
-  pub second_asks : (v && w) ≡ true → y < x → TwoLogs names counts a b y
-  second_asks t h = asks y t (omega arith) (omega arith)
-
   -- the test of is_prefix, taken apart
   short : ((v && w) && leb x y) ≡ true → ((v && w) ≡ true) × (x ≤ y)
   short t = let s = (and-eq-true_iff (v && w) (leb x y)).0 t in (s.0, leb-true x y s.1)
-
-  pub prefix_asks : ((v && w) && leb x y) ≡ true → TwoLogs names counts a b x
-  prefix_asks t = let s = short t in first_asks s.0 s.1
 
   pub prefix_is : (r : ℕ) → ((v && w) && leb x y) ≡ true → r ≡ shared_length (log_at names counts a x) (log_at names counts b x)
       → eqb r x ≡ prefix_at names counts a x b y
@@ -160,34 +137,20 @@ module _ (names counts : List ℕ) (a x b y : ℕ) (v w : Bool) (e : v ≡ withi
   unfolding shared_at
   shared_outside t = (rw (← e, ← f, t), omega arith)
 
-  is : (r k : ℕ) → (v && w) ≡ true → k ≤ x → k ≤ y → (x ≤ k) ⊎ (y ≤ k) → r ≡ shared_length (log_at names counts a k) (log_at names counts b k)
+  pub shared_is : (r k : ℕ) → (v && w) ≡ true → k ≡ min x y → r ≡ shared_length (log_at names counts a k) (log_at names counts b k)
       → (r ≡ shared_at names counts a x b y) × (r ≤ most_blocks)
   unfolding shared_at
-  is r k t h g c q =
+  shared_is r k t h q =
       let s = (and-eq-true_iff v w).0 t in
       let m = (within_of names counts a x (sym e ∙ s.0)).few in
-      let p = q ∙ shared_cut names counts a b x y k h g c in
+      let c : (x ≤ k) ⊎ (y ≤ k) = either (leb x y)
+      (λ u. let z = leb-true x y u in inl (omega arith)) (λ u. let z = leb-false x y u in inr (omega arith)) in
+      let p = q ∙ shared_cut names counts a b x y k (omega arith) (omega arith) c in
       let n = (shared_most (log_at names counts a x) (log_at names counts b y)).0 in
       let l = length_at_lem names counts a x in
       (rw (← e, ← f, t) p, omega arith)
 
-  pub shared_first : (r : ℕ) → (v && w) ≡ true → x ≤ y → r ≡ shared_length (log_at names counts a x) (log_at names counts b x)
-      → (r ≡ shared_at names counts a x b y) × (r ≤ most_blocks)
-  shared_first r t h q = is r x t (omega arith) h (inl (omega arith)) q
-
-  pub shared_second : (r : ℕ) → (v && w) ≡ true → y < x → r ≡ shared_length (log_at names counts a y) (log_at names counts b y)
-      → (r ≡ shared_at names counts a x b y) × (r ≤ most_blocks)
-  shared_second r t h q = is r y t (omega arith) (omega arith) (inr (omega arith)) q
-
 -- ---- the log in a message
-
--- no bytes say no blocks
-pub count_none : (s : List ℕ) → length s ≡ 0 → 0 ≡ count_in s
-count_none [] e = refl
-count_none (x ∷ s) e = absurd (omega arith)
-
-pub holds_is : (s : List ℕ) (k : ℕ) → k ≡ get_or s 0 0 → (leb k most_blocks && leb (head_length + block_width * k) (length s)) ≡ holds_log s
-holds_is s k e = rw e
 
 -- a message that holds a log, and a log within the lists of no more blocks
 holds_asks : (s names counts : List ℕ) (a k : ℕ) (v w : Bool) → v ≡ holds_log s → w ≡ within names counts a k → (v && w) ≡ true
@@ -224,27 +187,23 @@ blocks_alike s names counts p q a (suc k) =
     ∙ ap (λ (v : Bool). (eqb (number_at name_width s p) (get_or names a 0) && eqb (number_at count_width s q) (get_or counts a 0)) && v)
     (blocks_alike s names counts (p + name_width) (q + count_width) (a + 1) k)
 
-pub blocks_are : (s names counts : List ℕ) (a k : ℕ) (r t : Bool) → r ≡ alike (names_in s k) (part names a k)
-    → t ≡ alike (counts_in s k) (part counts a k)
+pub blocks_are : {s names counts : List ℕ} {a k : ℕ} (r t : Bool) → BytesAndLog s names counts a k
+    → r ≡ alike (numbers_at name_width s head_length (length (take (a + k - a) (drop a names)))) (map (λ (x : ℕ). x) (take (a + k - a) (drop a names)))
+    → t ≡ alike (numbers_at count_width s (head_length + name_width * k) (length (take (a + k - a) (drop a counts)))) (map (λ (x : ℕ). x) (take (a + k - a) (drop a counts)))
     → (r && t) ≡ same_log (blocks_in s k) (log_at names counts a k)
-blocks_are s names counts a k r t e f = rw (e, f) (blocks_alike s names counts head_length (head_length + name_width * k) a k)
-
--- what the two walks ask
-pub asks_names : {s names counts : List ℕ} {a k : ℕ} → BytesAndLog s names counts a k
-    → (head_length + name_width * k ≤ length s) × (a + k ≤ length names)
-asks_names h = let b = h.bytes in (omega arith, h.in_names)
-
-pub asks_counts : {s names counts : List ℕ} {a k : ℕ} → BytesAndLog s names counts a k
-    → (head_length + block_width * k ≤ length s) × (a + k ≤ length counts)
-asks_counts h = (h.bytes, h.in_counts)
+blocks_are {s} {names} {counts} {a} {k} r t h e f =
+    (λ j. cut name_width head_length names r h.in_names e j && cut count_width (head_length + name_width * k) counts t h.in_counts f j)
+    ∙ blocks_alike s names counts head_length (head_length + name_width * k) a k
+  where
+    cut : (w p : ℕ) (l : List ℕ) (r : Bool) → a + k ≤ length l
+        → r ≡ alike (numbers_at w s p (length (take (a + k - a) (drop a l)))) (map (λ (x : ℕ). x) (take (a + k - a) (drop a l)))
+        → r ≡ alike (numbers_at w s p k) (part l a k)
+    cut w p l r g q = q ∙ (λ j. alike (numbers_at w s p (slice_length l a k g j)) (slice_part l a k g j))
 
 module _ (s names counts : List ℕ) (a x : ℕ) (v w : Bool) (e : v ≡ holds_log s) (f : w ≡ within names counts a x) (k : ℕ)
     (g : k ≡ get_or s 0 0) where
   apart : ((v && w) && eqb k x) ≡ true → ((v && w) ≡ true) × (k ≡ x)
   apart t = let p = (and-eq-true_iff (v && w) (eqb k x)).0 t in (p.0, eqb-true k x p.1)
-
-  pub match_asks : ((v && w) && eqb k x) ≡ true → BytesAndLog s names counts a x
-  match_asks t = let p = apart t in let l = p.1 in holds_asks s names counts a x v w e f p.0 (omega arith)
 
   pub match_is : (r : Bool) → ((v && w) && eqb k x) ≡ true → r ≡ same_log (blocks_in s x) (log_at names counts a x)
       → r ≡ matches_at s names counts a x
@@ -295,13 +254,25 @@ module _ (names counts : List ℕ) (a : ℕ) (s : List ℕ) (k : ℕ) (g : k ≡
   pub file_asks : (v && w) ≡ true → BytesAndLog s names counts a k
   file_asks t = holds_asks s names counts a k v w e f t (omega arith)
 
-  pub file_done : (ns cs : List ℕ) → (v && w) ≡ true → ns ≡ put names a (names_in s k) → cs ≡ put counts a (counts_in s k)
-      → Stores (file_of names counts a s) true ns cs
+  -- a list with the numbers of a part of it read from bytes
+  filed : (w p : ℕ) (l xs : List ℕ) → a + k ≤ length l
+      → map (λ (x : ℕ). x) xs ≡ numbers_at w s p (length (take (a + k - a) (drop a l)))
+      → put_mid a (a + k - a) l xs ≡ put l a (numbers_at w s p k)
+  filed w p l xs h q =
+      let e : xs ≡ numbers_at w s p k = sym (map-id xs) ∙ q ∙ ap (numbers_at w s p) (slice_length l a k h) in
+      slice_put l a k xs (ap (λ (t : List ℕ). length t) e ∙ length_numbers w s p k) h ∙ ap (put l a) e
+
+  pub file_done : (ns cs : List ℕ) → (v && w) ≡ true
+      → map (λ (x : ℕ). x) ns ≡ numbers_at name_width s head_length (length (take (a + k - a) (drop a names)))
+      → map (λ (x : ℕ). x) cs ≡ numbers_at count_width s (head_length + name_width * k) (length (take (a + k - a) (drop a counts)))
+      → Stores (file_of names counts a s) true (put_mid a (a + k - a) names ns) (put_mid a (a + k - a) counts cs)
   file_done ns cs t m n =
+      let h = file_asks t in
       let p : names_in s k ≡ names_of (log_in s) = sym (names_read s k) ∙ ap (λ (j : ℕ). names_of (blocks_in s j)) g in
       let q : counts_in s k ≡ counts_of (log_in s) = sym (counts_in_lem s k) ∙ ap (λ (j : ℕ). counts_of (blocks_in s j)) g in
-      stored (holds_log s && within names counts a (count_in s)) names counts a (log_in s) ns cs (tested ∙ t) (m ∙ ap (put names a) p)
-      (n ∙ ap (put counts a) q)
+      stored (holds_log s && within names counts a (count_in s)) names counts a (log_in s) _ _ (tested ∙ t)
+      (filed name_width head_length names ns h.in_names m ∙ ap (put names a) p)
+      (filed count_width (head_length + name_width * k) counts cs h.in_counts n ∙ ap (put counts a) q)
 
 -- ---- copying
 
@@ -312,26 +283,15 @@ module _ (names counts : List ℕ) (a b k : ℕ) (v w : Bool) (e : v ≡ leb (a 
   pub copy_outside : (v && w) ≡ false → Stores (copy_of names counts a b k) false names counts
   copy_outside t = stored_not (leb (a + k) b && within names counts b k) names counts b (log_at names counts a k) (allowed ∙ t)
 
-  -- the two walks as they start
-  pub copy_starts : (v && w) ≡ true
-      → Copying b names (put names b (part names a k)) names a b k × Copying b counts (put counts b (part counts a k)) counts a b k
-  copy_starts t =
-      let p = (and-eq-true_iff v w).0 t in
-      let m = within_of names counts b k (sym f ∙ p.1) in
-      let q = leb-true (a + k) b (sym e ∙ p.0) in (
-        record { before = q; past = omega arith; room = m.in_names; same = refl; still = λ j h. refl; rest = refl },
-        record { before = q; past = omega arith; room = m.in_counts; same = refl; still = λ j h. refl; rest = refl },
-      )
-
-  pub copy_done : (ns cs : List ℕ) → (v && w) ≡ true → ns ≡ put names b (part names a k) → cs ≡ put counts b (part counts a k)
+  pub copy_done : (ns cs : List ℕ) → (v && w) ≡ true → ns ≡ paste names b (drop a names) (a + k - a)
+      → cs ≡ paste counts b (drop a counts) (a + k - a)
       → Stores (copy_of names counts a b k) true ns cs
   copy_done ns cs t m n =
+      let p = (and-eq-true_iff v w).0 t in
+      let room = within_of names counts b k (sym f ∙ p.1) in
+      let q = leb-true (a + k) b (sym e ∙ p.0) in
+      let x = room.in_names in
+      let y = room.in_counts in
       stored (leb (a + k) b && within names counts b k) names counts b (log_at names counts a k) ns cs (allowed ∙ t)
-      (m ∙ ap (put names b) (sym (names_at names counts a k)))
-      (n ∙ ap (put counts b) (sym (counts_at names counts a k)))
-
--- ---- the test of a range, on what the code found
-
-pub within_is : (m n a k : ℕ) (v w : Bool) → v ≡ leb (a + k) m → w ≡ leb (a + k) n
-    → (leb k most_blocks && (v && w)) ≡ (leb k most_blocks && (leb (a + k) m && leb (a + k) n))
-within_is m n a k v w e f = rw (e, f)
+      (m ∙ slice_copied names a b k (omega arith) x ∙ ap (put names b) (sym (names_at names counts a k)))
+      (n ∙ slice_copied counts a b k (omega arith) y ∙ ap (put counts b) (sym (counts_at names counts a k)))

@@ -4,6 +4,7 @@ pub mod Choice
 pub mod Causes
 pub mod Numbers
 pub mod Logs
+pub mod Refusals
 pub mod Message
 pub mod Store
 pub mod Asks

@@ -1,14 +1,16 @@
 -- The message: its meaning, its one writing, and what is read from bytes (document 01, "The message" and refusals 1 to 6 of "From the
 -- input"). Assumes nothing.
-use Rattle.std.specs.Prelude.{ℕ, ◌+◌, ◌*◌, ◌^◌, ◌<◌, ◌≤◌, List, [], ◌∷◌, ◌++◌, Bool, false, not, ◌&&◌, ◌||◌, ◌≡◌, eqb, leb, ltb, length, get_or}
+use Rattle.std.specs.Prelude.{ℕ, ◌+◌, ◌*◌, ◌^◌, ◌<◌, ◌≤◌, List, [], ◌∷◌, ◌++◌, Bool, false, not, ◌&&◌, ◌||◌, ◌≡◌, eqb, leb, ltb, length, get_or, Result, Ok, Err}
 use Rattle.message.specs.Limits.{most_blocks, last_view, head_length, name_width, count_width, block_width}
 use Rattle.message.specs.Choice.{pick, any_of}
 use Rattle.message.specs.Causes.{Cause, by, judged_by}
 use Rattle.message.specs.Numbers.{AllBelow, number_at, numbers_at, bytes_for, bytes_for_each}
 use Rattle.message.specs.Logs.{Log, in_step, names_of, counts_of}
+use Rattle.message.specs.Refusals.{number_of}
 use Rattle.message.specs.declared.Head.{Head}
 use Rattle.message.specs.declared.Message.{Message}
-use Rattle.message.specs.declared.Message.TheVariants as answers
+use Rattle.message.specs.declared.Message.TheVariants as messages
+use Rattle.message.specs.declared.refusal.Refusal.{Refusal}
 
 -- ---- the meaning
 
@@ -151,15 +153,19 @@ read_causes n s =
 unfoldable pub read_of : ℕ → List ℕ → Parsed
 read_of n s = judged_by (read_causes n s) refused (means (meaning_in s))
 
--- ---- the reader's answer: what each case of the enum says of the bytes that were read
+-- ---- the reader's answer: what each case of it says of the bytes that were read
 
 abbrev pub content_of : List ℕ → Head → Content
 content_of s h = record { sender = h.sender; view = h.view; log = blocks_in s h.blocks }
 
-unfoldable pub parsed_of : List ℕ → Message → Parsed
-parsed_of s (answers.Refused number) = refused number
-parsed_of s (answers.Log h) = means (log_message (content_of s h))
-parsed_of s (answers.Proposal h priority) = means (proposal_message (content_of s h) priority)
+-- the code's message, as a meaning
+abbrev pub meaning_of : List ℕ → Message → Meaning
+meaning_of s (messages.Log h) = log_message (content_of s h)
+meaning_of s (messages.Proposal h priority) = proposal_message (content_of s h) priority
+
+unfoldable pub parsed_of : List ℕ → Result Message Refusal → Parsed
+parsed_of s (Ok m) = means (meaning_of s m)
+parsed_of s (Err why) = refused (number_of why)
 
 -- ---- meanings in range: what may be written and is then read back
 

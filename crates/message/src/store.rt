@@ -1,15 +1,16 @@
 // Logs in the two lent lists, names in one and entry counts in the other: compared, filed from a message, copied. Each answers for every
 // place and length: what is no log within the lists is answered by false, or by 0 where a number is asked, and nothing is written.
-ghost use Rattle.std.specs.Prelude.{◌≡◌, ◌&&◌, ◌+◌, ◌*◌, ◌<◌, ◌≤◌, leb, length};
-ghost use Rattle.message.specs.Limits.{most_blocks, head_length, name_width, block_width};
-ghost use Rattle.message.specs.Numbers.{part, put};
-ghost use Rattle.message.specs.Logs.{same_log, same_block, shared_length};
-ghost use Rattle.message.specs.Message.{count_in, names_in, counts_in, blocks_in};
-ghost use Rattle.message.specs.Store.{block_at, log_at, holds_log, prefix_at, shared_at, matches_at, Stores, file_of, copy_of};
+ghost use Rattle.std.specs.Prelude.{◌≡◌, ◌&&◌, ◌+◌, ◌*◌, ◌<◌, ◌≤◌, leb, length, get_or, map};
+ghost use Rattle.message.specs.Limits.{most_blocks};
+ghost use Rattle.message.specs.Numbers.{numbers_at};
+ghost use Rattle.message.specs.Logs.{same_log, shared_length};
+ghost use Rattle.message.specs.Message.{count_in, blocks_in};
+ghost use Rattle.message.specs.Store.{log_at, holds_log, prefix_at, shared_at, matches_at, Stores, file_of, copy_of};
 ghost use Rattle.message.specs.Asks.{TwoLogs, BytesAndLog, alike};
 
-use super::number::{fits, u16_at, u64_at, wide};
-use super::{BLOCK_WIDTH, COUNT_WIDTH, HEAD_LENGTH, MOST_BLOCKS, NAME_WIDTH};
+use super::little_endian::LittleEndian;
+use super::number::fits;
+use super::{BLOCK_WIDTH, Block, HEAD_LENGTH, MOST_BLOCKS, NAME_WIDTH};
 
 // k blocks from place a on are a log within both lists, of which the lengths are given.
 pub(crate) fn is_within(names: usize, counts: usize, a: usize, k: usize) -> bool
@@ -18,31 +19,29 @@ pub(crate) fn is_within(names: usize, counts: usize, a: usize, k: usize) -> bool
     (k <= MOST_BLOCKS) & (fits(a, k, names) & fits(a, k, counts))
 }
 
-// The block at a has this name and this count.
-fn is_block(names: &[u64], counts: &[u16], a: usize, name: u64, count: u16) -> bool
+// The block at place a.
+fn block_at(names: &[u64], counts: &[u16], a: usize) -> Block
     requires { (a < length names.now) × (a < length counts.now) }
-    ensures { result ≡ same_block (record { name = name; count = count }) (block_at names.now counts.now a) }
+    ensures { (result.name ≡ get_or names.now a 0) × (result.count ≡ get_or counts.now a 0) }
 {
-    (name == names[a]) & (count == counts[a])
+    Block {
+        name: names[a],
+        count: counts[a],
+    }
 }
 
-// How many of the k blocks at a and the k blocks at b are alike before two differ.
-fn shared_blocks(names: &[u64], counts: &[u16], mut a: usize, mut b: usize, k: usize) -> usize
+// How many of the k blocks at a and the k blocks at b are alike before two differ. Kept by index: four slices go in step.
+fn shared_blocks(names: &[u64], counts: &[u16], a: usize, b: usize, k: usize) -> usize
     requires { TwoLogs names.now counts.now a b k }
     ensures { result ≡ shared_length (log_at names.now counts.now a k)
         (log_at names.now counts.now b k) }
 {
-    let mut i = 0;
-    while i < k {
-        if is_block(names, counts, b, names[a], counts[a]) {
-            a += 1;
-            b += 1;
-            i += 1;
-        } else {
+    for i in 0..k {
+        if block_at(names, counts, a + i) != block_at(names, counts, b + i) {
             return i;
         }
     }
-    i
+    k
 }
 
 // The log of x blocks at a is a prefix of the log of y blocks at b. False where one of them is no log.
@@ -64,10 +63,7 @@ pub fn shared(names: &[u64], counts: &[u16], a: usize, x: usize, b: usize, y: us
     let m = names.len();
     let n = counts.len();
     if is_within(m, n, a, x) & is_within(m, n, b, y) {
-        if x <= y {
-            return shared_blocks(names, counts, a, b, x);
-        }
-        return shared_blocks(names, counts, a, b, y);
+        return shared_blocks(names, counts, a, b, x.min(y));
     }
     0
 }
@@ -76,10 +72,7 @@ pub fn shared(names: &[u64], counts: &[u16], a: usize, x: usize, b: usize, y: us
 fn count_in(s: &[u8]) -> usize
     ensures { (result ≡ count_in s.now) × (result < 256) }
 {
-    if s.len() == 0 {
-        return 0;
-    }
-    wide(s[0]) as usize
+    s.first().map_or(0, |count| usize::from(*count))
 }
 
 // Byte 0 says at most 64 blocks, and the bytes hold them.
@@ -90,44 +83,25 @@ pub fn holds_log(s: &[u8]) -> bool
     (k <= MOST_BLOCKS) & (HEAD_LENGTH + BLOCK_WIDTH * k <= s.len())
 }
 
-// The k names in the bytes are the k names at place a. What differs is gathered, without a branch.
-fn names_match(s: &[u8], names: &[u64], mut a: usize, mut k: usize) -> bool
-    requires { (head_length + name_width * k ≤ length s.now) × (a + k ≤ length names.now) }
-    ensures { result ≡ alike (names_in s.now k) (part names.now a k) }
+// The list's numbers are those in the bytes from byte p on. What differs is gathered, without a branch.
+fn numbers_match<T: LittleEndian>(s: &[u8], p: usize, list: &[T]) -> bool
+    requires { p + T.WIDTH * length list.now ≤ length s.now }
+    ensures { result ≡ alike (numbers_at T.WIDTH s.now p (length list.now)) (map T.value list.now) }
 {
-    let mut p = HEAD_LENGTH;
-    let mut d = 0u64;
-    while 0 < k {
-        d = d | (u64_at(s, p) ^ names[a]);
-        p += NAME_WIDTH;
-        a += 1;
-        k -= 1;
+    let mut differing = T::default();
+    for (i, x) in list.iter().enumerate() {
+        differing = differing | (T::read_at(s, p + T::WIDTH * i) ^ *x);
     }
-    d == 0
+    differing == T::default()
 }
 
-// Their counts likewise.
-fn counts_match(s: &[u8], counts: &[u16], mut a: usize, mut k: usize) -> bool
-    requires { (head_length + block_width * k ≤ length s.now) × (a + k ≤ length counts.now) }
-    ensures { result ≡ alike (counts_in s.now k) (part counts.now a k) }
-{
-    let mut q = HEAD_LENGTH + NAME_WIDTH * k;
-    let mut d = 0u16;
-    while 0 < k {
-        d = d | (u16_at(s, q) ^ counts[a]);
-        q += COUNT_WIDTH;
-        a += 1;
-        k -= 1;
-    }
-    d == 0
-}
-
-// The k blocks in the bytes are the k blocks at place a.
+// The k blocks in the bytes are the k blocks at place a. Names and counts are each a walk of their own: one over both lists is slower.
 fn blocks_match(s: &[u8], names: &[u64], counts: &[u16], a: usize, k: usize) -> bool
     requires { BytesAndLog s.now names.now counts.now a k }
     ensures { result ≡ same_log (blocks_in s.now k) (log_at names.now counts.now a k) }
 {
-    names_match(s, names, a, k) & counts_match(s, counts, a, k)
+    numbers_match(s, HEAD_LENGTH, &names[a..a + k])
+        & numbers_match(s, HEAD_LENGTH + NAME_WIDTH * k, &counts[a..a + k])
 }
 
 // The log in the message is the log of x blocks at place a. False where one of them is no log.
@@ -140,31 +114,13 @@ pub fn matches(bytes: &[u8], names: &[u64], counts: &[u16], a: usize, x: usize) 
     false
 }
 
-// The k names in the bytes, filed from place a on. Names and counts are each a walk of their own: one over both lists is slower.
-fn file_names(names: &mut [u64], mut a: usize, s: &[u8], mut k: usize)
-    requires { (head_length + name_width * k ≤ length s.now) × (a + k ≤ length names.old) }
-    ensures { names.new ≡ put names.old a (names_in s.now k) }
+// The numbers in the bytes from byte p on, as many as the list is long.
+fn file_numbers<T: LittleEndian>(list: &mut [T], s: &[u8], p: usize)
+    requires { p + T.WIDTH * length list.old ≤ length s.now }
+    ensures { map T.value list.new ≡ numbers_at T.WIDTH s.now p (length list.old) }
 {
-    let mut p = HEAD_LENGTH;
-    while 0 < k {
-        names[a] = u64_at(s, p);
-        p += NAME_WIDTH;
-        a += 1;
-        k -= 1;
-    }
-}
-
-// Their counts likewise.
-fn file_counts(counts: &mut [u16], mut a: usize, s: &[u8], mut k: usize)
-    requires { (head_length + block_width * k ≤ length s.now) × (a + k ≤ length counts.old) }
-    ensures { counts.new ≡ put counts.old a (counts_in s.now k) }
-{
-    let mut q = HEAD_LENGTH + NAME_WIDTH * k;
-    while 0 < k {
-        counts[a] = u16_at(s, q);
-        q += COUNT_WIDTH;
-        a += 1;
-        k -= 1;
+    for (i, x) in list.iter_mut().enumerate() {
+        *x = T::read_at(s, p + T::WIDTH * i);
     }
 }
 
@@ -175,8 +131,8 @@ pub fn file(names: &mut [u64], counts: &mut [u16], a: usize, bytes: &[u8]) -> bo
 {
     let k = count_in(bytes);
     if holds_log(bytes) & is_within(names.len(), counts.len(), a, k) {
-        file_names(names, a, bytes, k);
-        file_counts(counts, a, bytes, k);
+        file_numbers(&mut names[a..a + k], bytes, HEAD_LENGTH);
+        file_numbers(&mut counts[a..a + k], bytes, HEAD_LENGTH + NAME_WIDTH * k);
         return true;
     }
     false
@@ -184,17 +140,12 @@ pub fn file(names: &mut [u64], counts: &mut [u16], a: usize, bytes: &[u8]) -> bo
 
 // The log of k blocks at a, copied to b. False, and nothing written, where it does not end at or before b, is no log or has no
 // room there.
-pub fn copy(names: &mut [u64], counts: &mut [u16], mut a: usize, mut b: usize, mut k: usize) -> bool
+pub fn copy(names: &mut [u64], counts: &mut [u16], a: usize, b: usize, k: usize) -> bool
     ensures { Stores (copy_of names.old counts.old a b k) result names.new counts.new }
 {
     if fits(a, k, b) & is_within(names.len(), counts.len(), b, k) {
-        while 0 < k {
-            names[b] = names[a];
-            counts[b] = counts[a];
-            a += 1;
-            b += 1;
-            k -= 1;
-        }
+        names.copy_within(a..a + k, b);
+        counts.copy_within(a..a + k, b);
         return true;
     }
     false

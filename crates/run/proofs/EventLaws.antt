@@ -3,8 +3,9 @@ use Prim.Native.Nat.{ℕ, ◌+◌, ◌-◌, ◌≤◌, ◌<◌}
 use native.Mathlib.Omega.{arith}
 use mathlib.Core.Bool.{Bool, true, false, not}
 use mathlib.Core.List.{List, ◌++◌, append_assoc}
+use Rattle.std.specs.Prelude.{Result, Ok, Err}
 use mathlib.Core.Path.{◌≡◌, refl, sym, ap, ◌∙◌}
-use borrow.Author.Tests.{eq-eqb, ne_eqb, lt-ltb, le-ltb}
+use borrow.Author.Tests.{eq-eqb, lt-ltb, le-ltb}
 use lib.Dec.{ltb}
 use lib.ListN.{length, take, drop}
 use Rattle.message.specs.Numbers.{number_in}
@@ -13,25 +14,23 @@ use Rattle.message.proofs.PartLaws.{length-put}
 use Rattle.message.proofs.Acceptance.{length_blocks}
 use Rattle.message.proofs.TestLaws.{either}
 use Rattle.agreement.specs.Sets.{is_yes}
+use Rattle.agreement.specs.declared.Answer.{Answer}
 use Rattle.bench.specs.Layout.{most_bytes, Lent}
 use Rattle.bench.specs.Calls.{Call, begin, receive, act, refused, done, State, Opening, Step}
 use Rattle.bench.specs.ByRecord.{open_of, begin_of, receive_of, act_of}
 use Rattle.bench.specs.Answers.{held_with, start_reply, taken_reply, made_reply, OpenGives, BeginGives, ReceiveGives, ActGives}
 use Rattle.bench.specs.Record.{Bench}
-use Rattle.bench.specs.declared.Start.{Start}
-use Rattle.bench.specs.declared.Start.TheVariants as starts
-use Rattle.bench.specs.declared.Taken.{Taken}
-use Rattle.bench.specs.declared.Taken.TheVariants as takings
+use Rattle.bench.specs.Refusals.{refusal_number}
+use Rattle.bench.specs.declared.refusal.Refusal.{Refusal}
 use Rattle.bench.specs.declared.Made.{Made}
+use Rattle.bench.specs.declared.Offer.{Offer}
 use Rattle.bench.specs.declared.Made.TheVariants as makings
-use Rattle.bench.proofs.Replies.{start_done, start_refused, taken_first, taken_second, taken_known, taken_refused, made_nothing, made_log}
-use Rattle.bench.proofs.Replies.{made_proposal, made_refused}
+use Rattle.bench.proofs.Replies.{start_done, start_refused, taken_word, taken_refused, made_nothing, made_log, made_proposal, made_refused}
 use Rattle.bench.proofs.Buffer.{same_reply, same_held}
 use Rattle.run.specs.declared.Answered.{Answered}
 use Rattle.run.specs.declared.Answered.TheVariants as answers
-use Rattle.run.specs.declared.Offer.{Offer}
 use Rattle.run.specs.Texts.{ascii, decimal}
-use Rattle.run.specs.Roll.{most_roll, misshapen, events_of, benches_of, own_of, kind_at, length_at, begin_kind, receive_kind, fresh_buffer}
+use Rattle.run.specs.Roll.{most_roll, misshapen, events_of, benches_of, own_of, kind_at, length_at, begin_kind, receive_kind, act_kind, fresh_buffer}
 use Rattle.run.specs.Roll.{offered_at, priority_at, call_at, calls_of}
 use Rattle.run.specs.RollText.{made_text, mark_text, reply_text, line_for, line_of, step_of, lines_of, no_roll_text, first_line, is_done}
 use Rattle.run.specs.RollText.{opened_text, fresh_lists, text_of, WritesText}
@@ -41,38 +40,36 @@ use Rattle.run.proofs.TextLaws.{puts_then}
 
 -- ---- the line of a call, by the code's answer
 
-start_line : (a : Start) (t : Step) (beat : ℕ) → start_reply a ≡ t.answer.reply
+start_line : (a : Result (Unit {0}) Refusal) (t : Step) (beat : ℕ) → start_reply a ≡ t.answer.reply
     → ascii "begin " ++ (decimal beat ++ start_text a) ≡ line_of (begin beat) t
 unfolding line_for reply_text start_text end_text
-start_line starts.Done t beat e = rw (← e, start_done) (sym (append_assoc (ascii "begin ") (decimal beat) (ascii " ok\n")))
-start_line (starts.Refused k) t beat e =
-    rw (← e, start_refused k) (sym (append_assoc (ascii "begin ") (decimal beat) (end_text (decimal k))))
+start_line (Ok _) t beat e = rw (← e, start_done) (sym (append_assoc (ascii "begin ") (decimal beat) (ascii " ok\n")))
+start_line (Err why) t beat e =
+    rw (← e, start_refused why) (sym (append_assoc (ascii "begin ") (decimal beat) (end_text (decimal (refusal_number why)))))
 
-taken_line : (a : Taken) (t : Step) (bytes : List ℕ) → taken_reply a ≡ t.answer.reply → taken_text a ≡ line_of (receive bytes) t
+taken_line : (a : Result Answer Refusal) (t : Step) (bytes : List ℕ) → taken_reply a ≡ t.answer.reply → taken_text a ≡ line_of (receive bytes) t
 unfolding line_for reply_text taken_text end_text
-taken_line takings.First t bytes e = rw (← e, taken_first)
-taken_line takings.Second t bytes e = rw (← e, taken_second)
-taken_line takings.Known t bytes e = rw (← e, taken_known)
-taken_line (takings.Refused k) t bytes e = rw (← e, taken_refused k)
+taken_line (Ok a) t bytes e = rw (← e, taken_word a)
+taken_line (Err why) t bytes e = rw (← e, taken_refused why)
 
 stand_end : (xs : List ℕ) (d : ℕ) (parted : Bool)
     → xs ++ stand_text d parted ≡ (xs ++ (ascii " " ++ (decimal d ++ mark_text parted))) ++ ascii "\n"
 unfolding stand_text
 stand_end xs d parted = simp append_assoc
 
-acted_line : (a : Made) (t : Step) (block : Block) (priority : ℕ) (buffer out : List ℕ) → made_reply out a ≡ t.answer.reply
+acted_line : (a : Result Made Refusal) (t : Step) (block : Block) (priority : ℕ) (buffer out : List ℕ) → made_reply out a ≡ t.answer.reply
     → acted_text t.held.bench.decided (is_yes t.held.bench.parted) a ≡ line_of (act block priority buffer) t
 unfolding line_for reply_text acted_text made_text end_text
-acted_line makings.Nothing t block priority buffer out e =
+acted_line (Ok makings.Nothing) t block priority buffer out e =
     rw (← e, made_nothing out)
     (ap (λ (l : List ℕ). ascii "act " ++ l) (stand_end (ascii "none 0") t.held.bench.decided (is_yes t.held.bench.parted)))
-acted_line (makings.Log k) t block priority buffer out e =
+acted_line (Ok (makings.Log k)) t block priority buffer out e =
     rw (← e, made_log out k, length_blocks out k)
     (ap (λ (l : List ℕ). ascii "act log " ++ l) (stand_end (decimal k) t.held.bench.decided (is_yes t.held.bench.parted)))
-acted_line (makings.Proposal k) t block priority buffer out e =
+acted_line (Ok (makings.Proposal k)) t block priority buffer out e =
     rw (← e, made_proposal out k, length_blocks out k)
     (ap (λ (l : List ℕ). ascii "act proposal " ++ l) (stand_end (decimal k) t.held.bench.decided (is_yes t.held.bench.parted)))
-acted_line (makings.Refused k) t block priority buffer out e = rw (← e, made_refused out k)
+acted_line (Err why) t block priority buffer out e = rw (← e, made_refused out why)
 
 -- ---- event i, by its kind
 
@@ -86,16 +83,14 @@ module _ (s : List ℕ) (i a : ℕ) where
   unfolding call_at
   call_begin beat k e = rw (eq-eqb (kind_at s i) begin_kind k, ← e)
 
-  call_receive : (k : ℕ) → (kind_at s i ≡ begin_kind → ⊥) → kind_at s i ≡ receive_kind → k ≡ length_at s i
+  call_receive : (k : ℕ) → kind_at s i ≡ receive_kind → k ≡ length_at s i
       → call_at s i a ≡ receive (take (a + k - a) (drop a s))
   unfolding call_at
-  call_receive k u v e =
-      let n : a + k - a ≡ length_at s i = omega arith in
-      rw (ne_eqb (kind_at s i) begin_kind u, eq-eqb (kind_at s i) receive_kind v, n)
+  call_receive k v e = let n : a + k - a ≡ length_at s i = omega arith in rw (v, n)
 
-  call_act : (kind_at s i ≡ begin_kind → ⊥) → (kind_at s i ≡ receive_kind → ⊥) → call_at s i a ≡ act (offered_at s a) (priority_at s a) fresh_buffer
+  call_act : kind_at s i ≡ act_kind → call_at s i a ≡ act (offered_at s a) (priority_at s a) fresh_buffer
   unfolding call_at
-  call_act u v = rw (ne_eqb (kind_at s i) begin_kind u, ne_eqb (kind_at s i) receive_kind v)
+  call_act v = rw v
 
 -- ---- the call of event i, by what it gave
 
@@ -105,7 +100,7 @@ gives : (s : List ℕ) (i a : ℕ) (x y : State) (c : Call) (r : Answered) → c
 gives s i a x y c r e f g = rw (e, f) (record { left = refl; line = g })
 
 module _ (s : List ℕ) (i a : ℕ) (x : State) (b : Bench) (ns cs ts : List ℕ) where
-  pub begin_gives : (r : Start) (beat : ℕ) → kind_at s i ≡ begin_kind → beat ≡ number_in 4 s a → BeginGives (begin_of x beat) r b ns cs ts
+  pub begin_gives : (r : Result (Unit {0}) Refusal) (beat : ℕ) → kind_at s i ≡ begin_kind → beat ≡ number_in 4 s a → BeginGives (begin_of x beat) r b ns cs ts
       → EventGives (call_at s i a) x (answers.Begun beat r) (held_with b ns cs ts)
   unfolding answer_text
   begin_gives r beat u v g =
@@ -113,22 +108,22 @@ module _ (s : List ℕ) (i a : ℕ) (x : State) (b : Bench) (ns cs ts : List ℕ
       (rw (g.bench, g.name_list, g.count_list, g.total_list))
       (start_line r (begin_of x beat) beat g.answered)
 
-  pub receive_gives : (r : Taken) (k : ℕ) → (kind_at s i ≡ begin_kind → ⊥) → kind_at s i ≡ receive_kind → k ≡ length_at s i
+  pub receive_gives : (r : Result Answer Refusal) (k : ℕ) → kind_at s i ≡ receive_kind → k ≡ length_at s i
       → ReceiveGives (receive_of x (take (a + k - a) (drop a s))) r b ns cs ts
       → EventGives (call_at s i a) x (answers.Taken r) (held_with b ns cs ts)
   unfolding answer_text
-  receive_gives r k u v e g =
+  receive_gives r k v e g =
       let bytes = take (a + k - a) (drop a s) in
-      gives s i a x (held_with b ns cs ts) (receive bytes) (answers.Taken r) (call_receive s i a k u v e)
+      gives s i a x (held_with b ns cs ts) (receive bytes) (answers.Taken r) (call_receive s i a k v e)
       (rw (g.bench, g.name_list, g.count_list, g.total_list))
       (taken_line r (receive_of x bytes) bytes g.answered)
 
-pub act_gives : (s : List ℕ) (i a : ℕ) (x y : State) (r : Answered) → (kind_at s i ≡ begin_kind → ⊥) → (kind_at s i ≡ receive_kind → ⊥)
+pub act_gives : (s : List ℕ) (i a : ℕ) (x y : State) (r : Answered) → kind_at s i ≡ act_kind
     → EventGives (act (offered_at s a) (priority_at s a) fresh_buffer) x r y → EventGives (call_at s i a) x r y
-act_gives s i a x y r u v g = rw (call_act s i a u v) g
+act_gives s i a x y r v g = rw (call_act s i a v) g
 
 -- an act, whatever its body
-pub acted_gives : (s : List ℕ) (a : ℕ) (x : State) (b : Bench) (ns cs ts : List ℕ) (r : Made) (o : Offer) (l out : List ℕ)
+pub acted_gives : (s : List ℕ) (a : ℕ) (x : State) (b : Bench) (ns cs ts : List ℕ) (r : Result Made Refusal) (o : Offer) (l out : List ℕ)
     → o ≡ offer_at s a
     → length l ≡ most_bytes
     → ActGives (act_of x (record { name = o.name; count = o.count }) o.priority l) r b ns cs ts out
@@ -156,12 +151,15 @@ is_not true false e = sym e
 is_not false true e = sym e
 is_not false false e = refl
 
-module _ (s : List ℕ) (l : Lent) (r : Start) (b : Bench) (ns cs ts : List ℕ) (g : OpenGives (opening_of s l) l r b ns cs ts) where
-  pub is_open : r ≡ starts.Done → false ≡ open_refuses s l
+module _ (s : List ℕ) (l : Lent) (r : Result (Unit {0}) Refusal) (b : Bench) (ns cs ts : List ℕ)
+    (g : OpenGives (opening_of s l) l r b ns cs ts) where
+  pub is_open : r ≡ Ok tt → false ≡ open_refuses s l
   is_open e = let d : done ≡ (opening_of s l).reply = sym start_done ∙ ap start_reply (sym e) ∙ g.answered in rw (← d)
 
-  pub is_shut : (k : ℕ) → r ≡ starts.Refused k → true ≡ open_refuses s l
-  is_shut k e = let d : refused k ≡ (opening_of s l).reply = sym (start_refused k) ∙ ap start_reply (sym e) ∙ g.answered in rw (← d)
+  pub is_shut : (why : Refusal) → r ≡ Err why → true ≡ open_refuses s l
+  is_shut why e =
+      let d : refused (refusal_number why) ≡ (opening_of s l).reply = sym (start_refused why) ∙ ap start_reply (sym e) ∙ g.answered in
+      rw (← d)
 
   pub opens : b ≡ (opening_of s l).bench
   opens = g.bench
@@ -174,7 +172,7 @@ module _ (s before : List ℕ) where
   text_scant h = record
       { answered = rw (lt-ltb (length before) most_roll h); fits = omega arith; buffer = rw (lt-ltb (length before) most_roll h) }
 
-  module _ (room : most_roll ≤ length before) (v : Bool) (t : v ≡ misshapen s) (q : ℕ) (after : List ℕ) where
+  module _ (room : most_roll ≤ length before) (q : ℕ) (after : List ℕ) where
     text_is : Puts (text_of s) 0 before q after → q ≤ most_roll → WritesText s before q after
     text_is f k = record {
       answered = rw (le-ltb (length before) most_roll room) (f.place ∙ omega arith);
@@ -182,17 +180,17 @@ module _ (s before : List ℕ) where
       buffer = rw (le-ltb (length before) most_roll room) f.text;
     }
 
-    pub text_none : v ≡ true → Puts no_roll_text 0 before q after → WritesText s before q after
+    pub text_none : misshapen s ≡ true → Puts no_roll_text 0 before q after → WritesText s before q after
     unfolding text_of
-    text_none e f = text_is (rw (← t, e) f) (omega (arith, f.place))
+    text_none e f = text_is (rw e f) (omega (arith, f.place))
 
     -- Open refuses, or not
-    module _ (e : v ≡ false) (w : Bool) (u : w ≡ open_refuses s fresh_lists) where
-      pub text_shut : w ≡ true → Puts no_roll_text 0 before q after → WritesText s before q after
+    module _ (e : misshapen s ≡ false) where
+      pub text_shut : open_refuses s fresh_lists ≡ true → Puts no_roll_text 0 before q after → WritesText s before q after
       unfolding text_of opened_text
-      text_shut g f = text_is (rw (← t, e, is_not (is_done (opening_of s fresh_lists).reply) false (sym u ∙ g)) f) (omega (arith, f.place))
+      text_shut g f = text_is (rw (e, is_not (is_done (opening_of s fresh_lists).reply) false g) f) (omega (arith, f.place))
 
-      pub text_whole : w ≡ false → (b : Bench) → b ≡ (opening_of s fresh_lists).bench → (p : ℕ) (m : List ℕ)
+      pub text_whole : open_refuses s fresh_lists ≡ false → (b : Bench) → b ≡ (opening_of s fresh_lists).bench → (p : ℕ) (m : List ℕ)
           → Puts (first_line (own_of s) (benches_of s)) 0 before p m
           → (k : ℕ) → k ≡ events_of s → (y : State)
           → Runs true s k (record { bench = b; lent = fresh_lists }) p m y q after → WritesText s before q after
@@ -200,7 +198,7 @@ module _ (s before : List ℕ) where
       text_whole g b o p m h k n y ran =
           let lines : Puts (lines_of (record { bench = b; lent = fresh_lists }) (calls_of s)) p m q after = rw n at ran.lines in
           text_is
-          (rw (← t, e, is_not (is_done (opening_of s fresh_lists).reply) true (sym u ∙ g))
+          (rw (e, is_not (is_done (opening_of s fresh_lists).reply) true g)
           (puts_then (first_line (own_of s) (benches_of s)) (lines_of (opened_on s fresh_lists) (calls_of s)) 0 before p m q after h
           (rw o at lines)))
           (ran.short refl)

@@ -15,16 +15,14 @@ use Rattle.demand.specs.Demand.{byValue, runs}
 use Rattle.demand.specs.TheBench.{the_bench}
 use Rattle.run.specs.Roll.{most_roll, most_events, events_of, length_at, bodies_place, misfits, call_at, calls_from}
 use Rattle.run.specs.RollText.{line_of, step_of, lines_of}
-use Rattle.run.specs.RollSteps.{line_room, answer_text, Puts, Remains, EventGives, Shaped, Lies, told, LineFits, LineEnds, LinesFit}
+use Rattle.run.specs.RollSteps.{line_room, answer_text, Puts, Remains, EventGives, Lies, told, LineFits, LineEnds, LinesFit}
 use Rattle.run.specs.RollSteps.{Runs, Ahead}
 use Rattle.run.specs.Held.{held_after, first_calls, body_from}
 use Rattle.run.proofs.RollForm.{lies}
-use Rattle.run.proofs.TextLaws.{puts_none}
 
 -- event i of the first k, in a roll of the right form with e events
-pub lies_within : (s : List ℕ) (i a e : ℕ) → misfits s i a (e - i) ≡ false → (k : ℕ) → i < k → k ≤ e → e ≡ events_of s → Shaped s
-    → Lies s i a
-lies_within s i a e inv k h r q f = lies s i a e q f inv (omega arith)
+pub lies_within : (s : List ℕ) (i a e : ℕ) → misfits s i a (e - i) ≡ false → (k : ℕ) → i < k → k ≤ e → e ≡ events_of s → Lies s i a
+lies_within s i a e inv k h r q = lies s i a e q inv (omega arith)
 
 -- ---- room for the lines
 
@@ -46,19 +44,6 @@ pub room_silent : (p : ℕ) (text : List ℕ) → LinesFit false 0 p text
 room_silent p text = record { low = λ t. absurd (false≢true t); long = λ t. absurd (false≢true t) }
 
 -- ---- a line where lines are asked for
-
-pub line_fits : (prints : Bool) (p : ℕ) (text : List ℕ) → LineFits prints p text → prints ≡ true → p + line_room ≤ length text
-line_fits prints p text f e = f.room e
-
-module _ (prints : Bool) (xs : List ℕ) (p : ℕ) (text : List ℕ) where
-  pub told_none : prints ≡ false → Puts (told prints xs) p text p text
-  told_none e = rw e (puts_none [] p text refl)
-
-  pub told_all : (q : ℕ) (m : List ℕ) → prints ≡ true → Puts xs p text q m → Puts (told prints xs) p text q m
-  told_all q m e f = rw e f
-
-pub line_ends : (prints : Bool) (p q : ℕ) → q ≤ p + line_room → LineEnds prints p q
-line_ends prints p q l = record { short = λ t. l }
 
 told-append : (prints : Bool) (xs ys : List ℕ) → told prints (xs ++ ys) ≡ told prints xs ++ told prints ys
 told-append true xs ys = refl

@@ -6,6 +6,7 @@ use mathlib.Core.List.{List, [], ◌∷◌, ◌++◌, map}
 use mathlib.Core.Option.{Option, some, none}
 use mathlib.Core.Path.{◌≡◌, refl}
 use lib.ListN.{replicate}
+use Rattle.std.specs.Prelude.{Some}
 use Rattle.message.specs.Choice as choice
 use Rattle.message.specs.Causes.{first_failure, judged_by}
 use Rattle.message.specs.Numbers.{part, put, number_at, number_in, numbers_at, bytes_for, bytes_for_each}
@@ -22,7 +23,6 @@ use Rattle.agreement.specs.Proposals.{file_proposal_of, best_of}
 use Rattle.agreement.specs.Kept.{kept_proposal}
 use Rattle.agreement.specs.Heard.{vote_among}
 use Rattle.agreement.specs.Tally.{supporters_of}
-use Rattle.agreement.specs.declared.Grade.TheVariants.{Longest}
 use Rattle.bench.specs.Totals.{totals_from, unlike, sum_of, block_holding, inside_block}
 use Rattle.bench.specs.Acts.{propose, vote, makes}
 use Rattle.bench.specs.Record.{agreement_of, proposals_of, with_agreement, any_place, beyond_agreement, beyond_proposals, beyond}
@@ -92,7 +92,7 @@ unfolding
     bytes_of part put number_at numbers_at bytes_for bytes_for_each is_prefix same_log in_step names_of counts_of totals_from unlike
     flags_from head_bytes sets_bytes slot_bytes read_bytes page_bytes agreement_before supporters_of
 sample_page = record {
-  count = record { grade = Longest 0 1; supporters = 1; senders = 1 };
+  count = record { grade = Some (record { sender = 0; blocks = 1 }); supporters = 1; senders = 1 };
   reads = record {
     grade = record { log = refl; placed = (omega arith, omega arith) };
     supporters = refl;

@@ -1,13 +1,15 @@
 -- The message that an Act of a roll made: a law for each return of the code that makes it. Assumes nothing.
-use Prim.Native.Nat.{ℕ, ◌+◌, ◌*◌, ◌≤◌, ◌<◌}
+use Prim.Native.Nat.{ℕ, ◌≤◌, ◌<◌}
 use native.Mathlib.Omega.{arith}
 use mathlib.Core.Bool.{Bool, true, false, not, ◌||◌}
 use mathlib.Core.List.{List}
 use mathlib.Core.Option.{Option, some, none}
 use mathlib.Core.Path.{◌≡◌, refl, sym, ap, ◌∙◌}
 use borrow.Author.Tests.{le-ltb, le-leb, lt-leb, leb-false}
+use denote.Enum.Bare.{sameb}
 use lib.Dec.{eqb, leb, ltb}
 use lib.ListN.{length, drop, length-append}
+use Rattle.std.specs.Prelude.{Result, Ok, Err}
 use Rattle.message.specs.Choice.{pick}
 use Rattle.message.specs.Logs.{Block}
 use Rattle.message.specs.Message.{Meaning, log_message, proposal_message, bytes_of, priority_in}
@@ -20,18 +22,21 @@ use Rattle.bench.specs.Acts.{out_after}
 use Rattle.bench.specs.Record.{Bench}
 use Rattle.bench.specs.ByRecord.{act_of}
 use Rattle.bench.specs.Answers.{content_made, made_reply, ActGives}
+use Rattle.bench.specs.declared.refusal.Refusal.{Refusal}
 use Rattle.bench.specs.declared.Made.{Made}
+use Rattle.bench.specs.declared.Offer.{Offer}
 use Rattle.bench.specs.declared.Made.TheVariants as makings
 use Rattle.bench.proofs.Buffer.{made_in, act_out, out_made, same_reply}
 use Rattle.bench.proofs.Replies.{made_nothing, made_log, made_proposal, made_refused}
-use Rattle.run.specs.declared.Offer.{Offer}
+use Rattle.run.specs.contracts.Kind.{the_type}
+use Rattle.run.specs.declared.Kind.{Kind}
+use Rattle.run.specs.declared.Kind.TheVariants as kinds
 use Rattle.run.specs.Roll.{events_of, kind_at, act_kind, misshapen, fresh_buffer, offered_at, priority_at, call_at}
 use Rattle.run.specs.RollText.{fresh_lists, step_of}
-use Rattle.run.specs.RollSteps.{Shaped, offer_at, length_for, none_made, Runs}
+use Rattle.run.specs.RollSteps.{KindIs, offer_at, length_for, unmade, Runs}
 use Rattle.run.specs.Held.{held_after, first_calls, body_place, opening_of, opened_on, open_refuses}
 use Rattle.run.specs.MadeBytes.{made_by, no_act, act_after, made_on, made_of, made_length, GivesMade}
 use Rattle.run.proofs.HeldLaws.{silent}
-use Rattle.run.proofs.RollForm.{shaped}
 
 -- ---- which events are no Act
 
@@ -40,37 +45,22 @@ module _ (s : List ℕ) (e k : ℕ) (q : e ≡ events_of s) where
   unfolding no_act
   no_event h = rw (le-leb (events_of s) k (omega arith))
 
-  pub event_act_not : k < e → not (eqb (kind_at s k) act_kind) ≡ no_act s k
+  pub event_act_not : (r : Kind) (v : Bool) → k < e → KindIs (kind_at s k) r → v ≡ not (sameb the_type r kinds.Act) → v ≡ no_act s k
   unfolding no_act
-  event_act_not h = rw (lt-leb (events_of s) k (omega arith))
+  event_act_not kinds.Begin v h is u = rw (lt-leb (events_of s) k (omega arith), is) u
+  event_act_not kinds.Receive v h is u = rw (lt-leb (events_of s) k (omega arith), is) u
+  event_act_not kinds.Act v h is u = rw (lt-leb (events_of s) k (omega arith), is) u
 
 -- ---- how long the message is
 
-module _ (a : Made) where
-  pub length_nothing : a ≡ makings.Nothing → 0 ≡ length_for a
-  unfolding length_for
-  length_nothing e = rw e
-
-  pub length_log : (k : ℕ) → a ≡ makings.Log k → 16 + 10 * k ≡ length_for a
-  unfolding length_for
-  length_log k e = rw e
-
-  pub length_proposal : (k : ℕ) → a ≡ makings.Proposal k → 16 + 10 * k ≡ length_for a
-  unfolding length_for
-  length_proposal k e = rw e
-
-  pub length_refused : (k : ℕ) → a ≡ makings.Refused k → 0 ≡ length_for a
-  unfolding length_for
-  length_refused k e = rw e
-
 -- the code's answer and the message in the buffer say the same
-length-answer : (out : List ℕ) (a : Made) → length_for a ≡ made_length (made_by (made_reply out a))
+length-answer : (out : List ℕ) (a : Result Made Refusal) → length_for a ≡ made_length (made_by (made_reply out a))
 unfolding length_for
-length-answer out makings.Nothing = rw (made_nothing out)
-length-answer out (makings.Log k) = rw (made_log out k) (sym (length_message (log_message (content_made out k)) ∙ rw (length_blocks out k)))
-length-answer out (makings.Proposal k) =
+length-answer out (Ok makings.Nothing) = rw (made_nothing out)
+length-answer out (Ok (makings.Log k)) = rw (made_log out k) (sym (length_message (log_message (content_made out k)) ∙ rw (length_blocks out k)))
+length-answer out (Ok (makings.Proposal k)) =
     rw (made_proposal out k) (sym (length_message (proposal_message (content_made out k) (priority_in out)) ∙ rw (length_blocks out k)))
-length-answer out (makings.Refused number) = rw (made_refused out number)
+length-answer out (Err why) = rw (made_refused out why)
 
 -- ---- the Act
 
@@ -94,7 +84,7 @@ module _ (x : State) (block : Block) (priority : ℕ) (out : List ℕ) where
       let n = length-append (bytes_of m) (drop (length (bytes_of m)) out) in
       omega arith
 
-  act_gives : (r : Made) (b : Bench) (ns cs ts after : List ℕ) (n : ℕ) → ActGives (act_of x block priority out) r b ns cs ts after
+  act_gives : (r : Result Made Refusal) (b : Bench) (ns cs ts after : List ℕ) (n : ℕ) → ActGives (act_of x block priority out) r b ns cs ts after
       → n ≡ length_for r
       → GivesMade (made_by (act_of x block priority out).answer.reply) out n after
   act_gives r b ns cs ts after n g e =
@@ -107,7 +97,7 @@ module _ (x : State) (block : Block) (priority : ℕ) (out : List ℕ) where
             ∙ ap (λ (o : Option Meaning). out_after o out) (made_same (act_of x block priority out).answer.reply);
       }
 
-pub act_makes : (s : List ℕ) (a : ℕ) (x : State) (out : List ℕ) (o : Offer) (r : Made) (b : Bench) (ns cs ts after : List ℕ) (n : ℕ)
+pub act_makes : (s : List ℕ) (a : ℕ) (x : State) (out : List ℕ) (o : Offer) (r : Result Made Refusal) (b : Bench) (ns cs ts after : List ℕ) (n : ℕ)
     → o ≡ offer_at s a
     → ActGives (act_of x (record { name = o.name; count = o.count }) o.priority out) r b ns cs ts after → n ≡ length_for r
     → GivesMade (made_by (act_of x (offered_at s a) (priority_at s a) out).answer.reply) out n after
@@ -134,51 +124,54 @@ made_after s l k out at p o e y f n after g =
 
 -- ---- of a whole roll
 
-module _ (s : List ℕ) (k : ℕ) (l : Lent) (v : Bool) (t : v ≡ misshapen s) where
-  pub none_no_roll : v ≡ true → true ≡ none_made s k l
-  none_no_roll e = rw (← t, e)
+module _ (s : List ℕ) (k : ℕ) where
+  pub unmade_no_roll : misshapen s ≡ true → unmade s k ≡ true
+  unmade_no_roll e = rw e
 
   module _ (w : Bool) (u : w ≡ no_act s k) where
-    pub none_no_act : w ≡ true → true ≡ none_made s k l
-    none_no_act e = sym (rw (← u, e) (or_true (misshapen s)))
+    pub unmade_no_act : w ≡ true → unmade s k ≡ true
+    unmade_no_act e = rw (← u, e) (or_true (misshapen s))
 
-    pub none_shut : v ≡ false → w ≡ false → (r : Bool) → r ≡ open_refuses s l → r ≡ none_made s k l
-    none_shut e f r g = rw (← t, e, ← u, f) g
+    pub unmade_none : misshapen s ≡ false → w ≡ false → unmade s k ≡ false
+    unmade_none e f = rw (e, ← u, f)
+
+  pub made_event : unmade s k ≡ false → k ≤ events_of s
+  unfolding no_act
+  made_event e =
+      let act = (or_false (misshapen s) (no_act s k) e).1 in
+      let n = leb-false (events_of s) k (or_false (leb (events_of s) k) (not (eqb (kind_at s k) act_kind)) act).0 in
+      omega arith
 
 -- one test after the other, and all at once
-picks : {A : Type 0} (a b c : Bool) (x y : A) → pick (a || b) x (pick c x y) ≡ pick (a || (b || c)) x y
+picks : {A : Type 0} (a b c : Bool) (x y : A) → pick (a || b) x (pick c x y) ≡ pick ((a || b) || c) x y
 picks true b c x y = refl
 picks false true c x y = refl
 picks false false c x y = refl
 
-module _ (s : List ℕ) (k : ℕ) (v : Bool) (t : v ≡ none_made s k fresh_lists) where
+module _ (s : List ℕ) (k : ℕ) where
   made_is : (out : List ℕ)
-      → made_of s k out ≡ pick (none_made s k fresh_lists) none (made_by (act_after (opened_on s fresh_lists) s k out).answer.reply)
+      → made_of s k out
+      ≡ pick (unmade s k || open_refuses s fresh_lists) none (made_by (act_after (opened_on s fresh_lists) s k out).answer.reply)
   unfolding made_of made_on
   made_is out =
       picks (misshapen s) (no_act s k) (open_refuses s fresh_lists) none (made_by (act_after (opened_on s fresh_lists) s k out).answer.reply)
 
-  pub made_none : (out : List ℕ) → v ≡ true → GivesMade (made_of s k out) out 0 out
-  made_none out e = rw (made_is out, ← t, e) (record { answered = refl; fits = omega arith; buffer = refl })
+  made_none : (out : List ℕ) → (unmade s k || open_refuses s fresh_lists) ≡ true → GivesMade (made_of s k out) out 0 out
+  made_none out e = rw (made_is out, e) (record { answered = refl; fits = omega arith; buffer = refl })
 
-  module _ (e : v ≡ false) where
-    pub made_shaped : Shaped s
-    made_shaped = shaped s (misshapen s) refl (or_false (misshapen s) (no_act s k || open_refuses s fresh_lists) (sym t ∙ e)).0
+  pub made_unmade : (out : List ℕ) → unmade s k ≡ true → GivesMade (made_of s k out) out 0 out
+  made_unmade out e = made_none out (rw e)
 
-    pub made_event : k ≤ events_of s
-    unfolding no_act
-    made_event =
-        let act = (or_false (no_act s k) (open_refuses s fresh_lists)
-        (or_false (misshapen s) (no_act s k || open_refuses s fresh_lists) (sym t ∙ e)).1).0 in
-        let n = leb-false (events_of s) k (or_false (leb (events_of s) k) (not (eqb (kind_at s k) act_kind)) act).0 in
-        omega arith
+  pub made_shut : (out : List ℕ) → open_refuses s fresh_lists ≡ true → GivesMade (made_of s k out) out 0 out
+  made_shut out e = made_none out (rw e (or_true (unmade s k)))
 
-  pub made_whole : (out : List ℕ) → v ≡ false → (at : ℕ) → at ≡ body_place s k → (o : Bench) → o ≡ (opening_of s fresh_lists).bench
+  pub made_whole : (out : List ℕ) → unmade s k ≡ false → open_refuses s fresh_lists ≡ false → (at : ℕ) → at ≡ body_place s k → (o : Bench)
+      → o ≡ (opening_of s fresh_lists).bench
       → (y : State) (q : ℕ) (mid : List ℕ) → Runs false s k (record { bench = o; lent = fresh_lists }) 0 out y q mid
       → (n : ℕ) (after : List ℕ)
       → GivesMade (made_by (act_of y (offered_at s at) (priority_at s at) mid).answer.reply) mid n after
       → GivesMade (made_of s k out) out n after
-  made_whole out e at p o h y q mid f n after g =
-      rw (made_is out, ← t, e)
+  made_whole out e d at p o h y q mid f n after g =
+      rw (made_is out, e, d)
       (made_after s fresh_lists k out at p o h y f.left n after
       (rw (silent s k (record { bench = o; lent = fresh_lists }) out y q mid f) at g))

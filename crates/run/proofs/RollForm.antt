@@ -7,7 +7,7 @@ use mathlib.Core.Path.{◌≡◌, refl, sym, ap, ◌∙◌}
 use borrow.Author.Tests.{lt-ltb, le-ltb, eqb-true, eqb-false, ne_eqb, ltb-false}
 use lib.Dec.{eqb, ltb}
 use lib.ListN.{length, get_or}
-use Rattle.message.specs.Numbers.{number_at}
+use Rattle.message.specs.Numbers.{AllBelow, number_at}
 use Rattle.message.proofs.NumberLaws.{number_inside}
 use Rattle.message.proofs.LoopLaws.{two_bytes}
 use Rattle.message.proofs.TestLaws.{either, or_false}
@@ -17,13 +17,19 @@ use Rattle.run.specs.RollSteps.{Marked, MarkIs, Shaped, Lies}
 
 -- ---- a mark as one number
 
-pub mark_is : (s : List ℕ) (i x y u v : ℕ) → Marked s i → (x ≡ kind_at s i) × (x < 256) → (y ≡ zero_at s i) × (y < 256)
-    → (u ≡ get_or s (mark_place i + 2) 0) × (u < 256) → (v ≡ get_or s (mark_place i + 3) 0) × (v < 256)
-    → MarkIs s i (x + y * 256 + (u + v * 256) * 65536)
-mark_is s i x y u v h (e, a) (f, b) (g, c) (j, d) =
+pub mark_is : (s : List ℕ) (i m : ℕ) → Marked s i → AllBelow 256 s
+    → m ≡ kind_at s i + zero_at s i * 256 + get_or s (mark_place i + 2) 0 * 65536 + get_or s (mark_place i + 3) 0 * 16777216
+    → MarkIs s i m
+mark_is s i m h bytes e =
     let n : mark_place i + 2 + 1 ≡ mark_place i + 3 = omega arith in
-    let t = two_bytes s (mark_place i + 2) u v g (j ∙ ap (λ (k : ℕ). get_or s k 0) (sym n)) in
+    let u = get_or s (mark_place i + 2) 0 in
+    let v = get_or s (mark_place i + 3) 0 in
+    let t = two_bytes s (mark_place i + 2) u v refl (ap (λ (k : ℕ). get_or s k 0) (sym n)) in
     let w : length_at s i ≡ number_at 2 s (mark_place i + 2) = number_inside 2 s (mark_place i + 2) (omega arith) in
+    let a = bytes (mark_place i) in
+    let b = bytes (mark_place i + 1) in
+    let c = bytes (mark_place i + 2) in
+    let d = bytes (mark_place i + 3) in
     record { start = omega arith; kind = omega arith; body = omega arith; short = omega arith }
 
 -- a mark whose second byte is not zero has a lower half that is no kind
@@ -89,10 +95,9 @@ module _ (s : List ℕ) where
   unfolding misshapen
   shape_size t = rw t
 
-  pub shaped : (v : Bool) → v ≡ misshapen s → v ≡ false → Shaped s
+  pub shaped : misshapen s ≡ false → Shaped s
   unfolding misshapen
-  shaped v t f =
-      let e = sym t ∙ f in
+  shaped e =
       let parts = or_false (ltb (length s) sizes_length || ltb most_roll (length s))
       (ltb most_events (events_of s) || misfits s 0 (bodies_place s) (events_of s)) e in
       let sizes = or_false (ltb (length s) sizes_length) (ltb most_roll (length s)) parts.0 in
@@ -112,7 +117,7 @@ module _ (s : List ℕ) where
     pub shape_scant : e ≤ most_events → length s < sizes_length + mark_length * e → true ≡ misshapen s
     shape_scant h k =
         either (misshapen s) (λ yes. sym yes)
-        (λ no. let f = places_grow s 0 (bodies_place s) (events_of s) (shaped (misshapen s) refl no).fit in absurd (omega arith))
+        (λ no. let f = places_grow s 0 (bodies_place s) (events_of s) (shaped no).fit in absurd (omega arith))
 
     pub shape_is : (r : Bool) → e ≤ most_events → r ≡ misfits s 0 (bodies_place s) (events_of s) → r ≡ misshapen s
     unfolding misshapen
@@ -120,8 +125,8 @@ module _ (s : List ℕ) where
 
 -- ---- event i of a roll of the right form, whose body starts at place a
 
-pub fit_start : (s : List ℕ) (e : ℕ) → e ≡ events_of s → Shaped s → misfits s 0 (4 + 4 * e) (e - 0) ≡ false
-fit_start s e q f = sym (marks_start s e q) ∙ f.fit
+pub fit_start : (s : List ℕ) (e : ℕ) → e ≡ events_of s → misshapen s ≡ false → misfits s 0 (4 + 4 * e) (e - 0) ≡ false
+fit_start s e q form = sym (marks_start s e q) ∙ (shaped s form).fit
 
 module _ (s : List ℕ) (i a e : ℕ) (h : i < e) (inv : misfits s i a (e - i) ≡ false) where
   rest : (wrong_mark s i || misfits s (i + 1) (a + length_at s i) (e - i - 1)) ≡ false
@@ -135,13 +140,50 @@ module _ (s : List ℕ) (i a e : ℕ) (h : i < e) (inv : misfits s i a (e - i) �
   body_fits : (k : ℕ) → k ≡ length_at s i → a + k ≤ length s
   body_fits k l = places_grow s (i + 1) (a + k) (e - (i + 1)) (fit_next k l)
 
-pub lies : (s : List ℕ) (i a e : ℕ) → e ≡ events_of s → Shaped s → misfits s i a (e - i) ≡ false → i < e → Lies s i a
-lies s i a e q f inv h =
-    let m = places_grow s 0 (bodies_place s) (events_of s) f.fit in
-    record { few = omega (arith, f.few); mark = omega arith; body = body_fits s i a e h inv (length_at s i) refl; short = f.short }
+pub lies : (s : List ℕ) (i a e : ℕ) → e ≡ events_of s → misfits s i a (e - i) ≡ false → i < e → Lies s i a
+lies s i a e q inv h = record { event = omega arith; body = body_fits s i a e h inv (length_at s i) refl }
 
-pub mark_fits : (s : List ℕ) (i e : ℕ) → e ≡ events_of s → Shaped s → i < e → 4 + 4 * i < length s
-mark_fits s i e q f h = let m = places_grow s 0 (bodies_place s) (events_of s) f.fit in omega arith
+mark_right : (s : List ℕ) (i a m j : ℕ) → misfits s i a m ≡ false → j < m → wrong_mark s (i + j) ≡ false
+unfolding misfits
+mark_right s i a zero j e h = absurd (omega arith)
+mark_right s i a (suc m) zero e h =
+    ap (wrong_mark s) (omega arith) ∙ (or_false (wrong_mark s i) (misfits s (i + 1) (a + length_at s i) m) e).0
+mark_right s i a (suc m) (suc j) e h =
+    let n : i + suc j ≡ i + 1 + j = omega arith in
+    ap (wrong_mark s) n
+    ∙ mark_right s (i + 1) (a + length_at s i) m j (or_false (wrong_mark s i) (misfits s (i + 1) (a + length_at s i) m) e).1 (omega arith)
 
-pub marked : (s : List ℕ) (i k : ℕ) → Shaped s → k ≤ events_of s → i < k → (i < most_events) × Marked s i
-marked s i k f h l = let m = places_grow s 0 (bodies_place s) (events_of s) f.fit in let n = f.few in (omega arith, omega arith)
+-- of a roll of the right form
+module _ (s : List ℕ) (form : misshapen s ≡ false) where
+  pub sizes_fit : 4 ≤ length s
+  sizes_fit = (shaped s form).long
+
+  pub roll_short : length s ≤ most_roll
+  roll_short = (shaped s form).short
+
+  pub events_few : events_of s ≤ most_events
+  events_few = (shaped s form).few
+
+  pub event_marked : (i : ℕ) → i < events_of s → (i < most_events) × Marked s i
+  event_marked i h =
+      let f = shaped s form in
+      let m = places_grow s 0 (bodies_place s) (events_of s) f.fit in
+      let n = f.few in
+      (omega arith, omega arith)
+
+  pub event_right : (i : ℕ) → i < events_of s → wrong_mark s i ≡ false
+  event_right i h =
+      let z : i ≡ 0 + i = omega arith in
+      ap (wrong_mark s) z ∙ mark_right s 0 (bodies_place s) (events_of s) i (shaped s form).fit h
+
+-- a right mark that says no other kind is an act's
+pub kind_left : (s : List ℕ) (i : ℕ) → wrong_mark s i ≡ false → (kind_at s i ≡ 1 → ⊥) → (kind_at s i ≡ 2 → ⊥) → kind_at s i ≡ 3
+unfolding wrong_mark right_body
+kind_left s i w f g =
+    either (eqb (kind_at s i) 3)
+    (λ yes. eqb-true (kind_at s i) 3 yes)
+    (λ no.
+    let r = (or_false (not (eqb (zero_at s i) 0)) (not (right_body (kind_at s i) (length_at s i))) w).1 in
+    let t : true ≡ false = rw (ne_eqb (kind_at s i) 1 f, ne_eqb (kind_at s i) 2 g, no) at r in
+    let z : ◌≡◌ {A = ℕ} 0 1 = cc in
+    absurd (omega arith))

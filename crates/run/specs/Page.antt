@@ -1,13 +1,12 @@
 -- The page of a roll: what its bench holds after the first calls, as bytes for a tool that shows it (document 01, "Counting in one
 -- agreement" and "Calendar of acts"). Assumes nothing.
-use Rattle.std.specs.Prelude.{ℕ, zero, suc, ◌+◌, Bool, true, false, List, [], ◌∷◌, ◌++◌, ◌≡◌}
+use Rattle.std.specs.Prelude.{Option, Some, None, ℕ, zero, suc, ◌+◌, Bool, true, false, List, [], ◌∷◌, ◌++◌, ◌≡◌}
 use Rattle.message.specs.Choice.{pick}
 use Rattle.message.specs.Numbers.{part, put, bytes_for}
 use Rattle.agreement.specs.Limits.{most_senders}
 use Rattle.agreement.specs.Sets.{share, member, is_yes}
 use Rattle.agreement.specs.Record.{Agreement}
-use Rattle.agreement.specs.declared.Grade.{Grade}
-use Rattle.agreement.specs.declared.Grade.TheVariants.{Longest, Nothing}
+use Rattle.agreement.specs.declared.Longest.{Longest}
 use Rattle.bench.specs.Layout.{Lent}
 use Rattle.bench.specs.Calendar.{view_of, place_in, act_at}
 use Rattle.bench.specs.Calls.{State, core_of}
@@ -47,9 +46,9 @@ slot_bytes g = head_bytes g ++ (part g.lengths 0 most_senders ++ sets_bytes g)
 -- ---- what an act now would read, 5 bytes
 
 -- 1, the sender at whose place the log stands, and its number of blocks; zeros where there is none
-abbrev pub grade_bytes : Grade → List ℕ
-grade_bytes Nothing = 0 ∷ 0 ∷ 0 ∷ []
-grade_bytes (Longest i k) = 1 ∷ i ∷ k ∷ []
+abbrev pub grade_bytes : Option Longest → List ℕ
+grade_bytes None = 0 ∷ 0 ∷ 0 ∷ []
+grade_bytes (Some l) = 1 ∷ l.sender ∷ l.blocks ∷ []
 
 -- then how many support it, and among how many senders
 unfoldable pub read_bytes : Counted → List ℕ

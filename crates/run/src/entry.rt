@@ -5,19 +5,18 @@ ghost use Rattle.run.specs.RollSteps.{Puts};
 ghost use Rattle.run.specs.EntryBytes.{entry_bytes, entry_length};
 
 use super::texts::put_word;
-use bench::Entry;
+use bench::{Entry, Refusal};
 
 // At the front of the buffer; the answer is their number.
-pub(crate) fn put_entry(found: &mut [u8], place: Entry) -> usize
+pub(crate) fn put_entry(found: &mut [u8], place: Result<Entry, Refusal>) -> usize
     requires { entry_length ≤ length found.old }
     ensures { Puts (entry_bytes (entry_reply place)) 0 found.old result found.new }
 {
     match place {
-        Entry::At(block, inside) => {
-            let low = (inside % 256) as u8;
-            let high = (inside / 256 % 256) as u8;
+        Ok(Entry { block, inside }) => {
+            let [low, high] = inside.to_le_bytes();
             put_word(found, 0, &[block, low, high])
         }
-        Entry::Refused(number) => put_word(found, 0, &[number]),
+        Err(why) => put_word(found, 0, &[u8::from(why)]),
     }
 }

@@ -3,77 +3,54 @@
 ghost use Rattle.std.specs.Prelude.{◌≤◌};
 ghost use Rattle.bench.specs.Answers.{state_of};
 ghost use Rattle.run.specs.Roll.{events_of};
-ghost use Rattle.run.specs.RollSteps.{Shaped, LinesFit, Runs};
+ghost use Rattle.run.specs.RollSteps.{LinesFit, Runs};
 
 use super::calling::call_event;
-use super::form::{events_of, length_at};
-use super::lines::tell;
+use super::lines::{Stands, tell};
+use super::roll::Roll;
 use super::{MARK_LENGTH, SIZES_LENGTH};
+use agreement::Given;
 use bench::{Bench, MOST_BYTES};
 
-// The record after the calls, and where the text ends.
-#[derive(Clone, Copy)]
-pub(crate) struct Ran {
-    pub(crate) bench: Bench,
-    pub(crate) end: usize,
-}
-
-// The first calls, one after the other.
+// The first calls, one after the other: where the text ends, and the record after them. The lent lists and the totals stay three slices:
+// a struct that holds a `&mut` needs clauses of separation logic. Kept as a flag, whether their lines are written: with a type parameter in its place this function
+// stands twice, the call of an event goes into neither, and a refused call takes 62 instructions more, of 365.
 pub(crate) fn run_events(
     bench: Bench,
     names: &mut [u64],
     counts: &mut [u16],
     totals: &mut [u32],
-    roll: &[u8],
+    roll: Roll,
     calls: usize,
     text: &mut [u8],
     at: usize,
     prints: bool,
-) -> Ran
-    requires { (Shaped roll.now × (calls ≤ events_of roll.now)) × LinesFit prints 0 at text.old }
-    ensures { Runs prints roll.now calls
+) -> Given<usize, Bench>
+    requires { (calls ≤ events_of roll.bytes.now) × LinesFit prints 0 at text.old }
+    ensures { Runs prints roll.entry.bytes.now calls
         (state_of bench names.old counts.old totals.old) at text.old
-        (state_of result.bench names.new counts.new totals.new) result.end text.new }
+        (state_of result.after names.new counts.new totals.new) result.answer text.new }
 {
-    let events = events_of(roll);
+    let events = roll.events();
     let mut body = SIZES_LENGTH + MARK_LENGTH * events;
     let mut head = bench.head;
-    let mut even = bench.even;
-    let mut odd = bench.odd;
-    let mut proposed = bench.proposed;
-    let mut priorities = bench.priorities;
+    let mut rows = bench.rows;
     let mut out = [0; MOST_BYTES];
     let mut p = at;
-    let mut i = 0;
-    while i < calls {
+    for i in 0..calls {
         let called = call_event(
-            head,
-            &mut even,
-            &mut odd,
-            &mut proposed,
-            &mut priorities,
-            names,
-            counts,
-            totals,
-            &mut out,
-            roll,
-            i,
-            body,
+            head, &mut rows, names, counts, totals, &mut out, roll, i, body,
         );
-        let answer = called.answer;
-        head = called.head;
-        p = tell(text, p, prints, answer, head.decided, head.parted);
-        body += length_at(roll, i);
-        i += 1;
+        head = called.after;
+        let stands = Stands {
+            decided: head.decided,
+            parted: head.parted,
+        };
+        p = tell(text, p, prints, called.answer, stands);
+        body += roll.length_at(i);
     }
-    Ran {
-        bench: Bench {
-            priorities,
-            head,
-            even,
-            odd,
-            proposed,
-        },
-        end: p,
+    Given {
+        answer: p,
+        after: Bench { rows, head },
     }
 }

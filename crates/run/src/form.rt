@@ -1,25 +1,16 @@
 // The form of a roll, judged whole before any call is made.
 ghost use Rattle.std.specs.Prelude.{◌≡◌, ◌≤◌, ◌<◌, length};
 ghost use Rattle.run.specs.Roll.{most_events, events_of, length_at, right_body, misfits, misshapen, bodies_place};
-ghost use Rattle.run.specs.Held.{body_place};
-ghost use Rattle.run.specs.RollSteps.{Marked, MarkIs, Shaped};
+ghost use Rattle.run.specs.RollSteps.{Marked, MarkIs};
 
-use super::{
-    ACT_KIND, BEGIN_KIND, MARK_LENGTH, MOST_EVENTS, MOST_ROLL, RECEIVE_KIND, SIZES_LENGTH,
-};
+use super::{Kind, MARK_LENGTH, MOST_EVENTS, MOST_ROLL, SIZES_LENGTH};
 use bench::MOST_BYTES;
-use message::number::u16_in;
+use message::number::number_in;
 
 pub(crate) fn events_of(roll: &[u8]) -> usize
     ensures { (result ≡ events_of roll.now) × (result < 65536) }
 {
-    u16_in(roll, 2) as usize
-}
-
-fn wide(x: u8) -> u32
-    ensures { (result ≡ x) × (result < 256) }
-{
-    x as u32
+    usize::from(number_in::<u16>(roll, 2))
 }
 
 // The mark of event i as one number: the kind, a zero, and in the upper half the body's length.
@@ -28,8 +19,7 @@ fn mark_at(roll: &[u8], i: usize) -> u32
     ensures { MarkIs roll.now i result }
 {
     let at = SIZES_LENGTH + MARK_LENGTH * i;
-    (wide(roll[at]) + wide(roll[at + 1]) * 256)
-        + (wide(roll[at + 2]) + wide(roll[at + 3]) * 256) * 65536
+    u32::from_le_bytes([roll[at], roll[at + 1], roll[at + 2], roll[at + 3]])
 }
 
 // The body length of event i.
@@ -40,12 +30,14 @@ pub(crate) fn length_at(roll: &[u8], i: usize) -> usize
     (mark_at(roll, i) / 65536) as usize
 }
 
+// Of a mark's kind, a number that may be no kind, and its body's length. Kept as numbers, all compared: every mark of a roll is judged
+// here, without a branch.
 fn is_right_body(kind: u32, k: u32) -> bool
     ensures { result ≡ right_body kind k }
 {
-    ((kind == BEGIN_KIND as u32) & (k == 4))
-        | (((kind == RECEIVE_KIND as u32) & (k <= MOST_BYTES as u32))
-            | ((kind == ACT_KIND as u32) & (k == 18)))
+    ((kind == Kind::Begin as u32) & (k == 4))
+        | (((kind == Kind::Receive as u32) & (k <= MOST_BYTES as u32))
+            | ((kind == Kind::Act as u32) & (k == 18)))
 }
 
 // A mark is wrong, or the bodies do not end where the roll ends. All marks are looked at, without a branch.
@@ -55,13 +47,11 @@ fn is_misfit(roll: &[u8], events: usize) -> bool
 {
     let mut at = SIZES_LENGTH + MARK_LENGTH * events;
     let mut wrong = false;
-    let mut i = 0;
-    while i < events {
+    for i in 0..events {
         let mark = mark_at(roll, i);
         let k = mark / 65536;
-        wrong = wrong | !is_right_body(mark % 65536, k);
+        wrong |= !is_right_body(mark % 65536, k);
         at += k as usize;
-        i += 1;
     }
     wrong | (at != roll.len())
 }
@@ -80,18 +70,4 @@ pub(crate) fn is_misshapen(roll: &[u8]) -> bool
         return true;
     }
     is_misfit(roll, events)
-}
-
-// Where the body of this event starts.
-pub(crate) fn body_place(roll: &[u8], event: usize) -> usize
-    requires { Shaped roll.now × (event ≤ events_of roll.now) }
-    ensures { (result ≡ body_place roll.now event) × (result < 4294967296) }
-{
-    let mut at = SIZES_LENGTH + MARK_LENGTH * events_of(roll);
-    let mut i = 0;
-    while i < event {
-        at += length_at(roll, i);
-        i += 1;
-    }
-    at
 }

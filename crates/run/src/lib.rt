@@ -1,7 +1,7 @@
 // A roll: a list of calls at one bench as bytes (specs/Roll.antt). Four functions of it: roll_text, its text (specs/RollText.antt);
 // and for a tool that shows schedules roll_page, what the bench holds after some of the calls (specs/Page.antt), roll_made, the
 // message that an act made (specs/MadeBytes.antt), and roll_entry, where an entry stands after some of the calls
-// (specs/EntryBytes.antt). The crate cervakho exports them.
+// (specs/EntryBytes.antt). The crate cervakho exports them, and for C they answer 0 where nothing is written.
 #![tactic(auto)]
 
 mod calling;
@@ -11,6 +11,7 @@ mod form;
 mod lines;
 mod made;
 mod opening;
+mod roll;
 mod showing;
 mod slots;
 mod texts;
@@ -22,16 +23,16 @@ ghost use Rattle.run.specs.Page.{no_page, GivesPage};
 ghost use Rattle.run.specs.MadeBytes.{made_of, GivesMade};
 ghost use Rattle.run.specs.EntryBytes.{entry_of, no_entry, GivesEntry};
 
-use agreement::MOST_SENDERS;
-use bench::{Head, LEAST_LENT, Made, Start, Taken};
+use agreement::{Answer, MOST_SENDERS};
+use bench::{LEAST_LENT, Made, Refusal};
 use entry::put_entry;
 use events::run_events;
-use form::{body_place, events_of, is_misshapen};
 use lines::{put_first_line, put_no_roll};
-use made::{act_in, is_none_made};
+use made::{act_in, acting};
 use message::MOST_BLOCKS;
-use opening::{is_shut, opened};
-use showing::is_nothing_shown;
+use opening::opened;
+use roll::Roll;
+use showing::shown;
 use slots::put_page;
 
 // The numbers of specs/Roll.antt, specs/Page.antt and specs/EntryBytes.antt.
@@ -47,32 +48,20 @@ const PAGE_LENGTH: usize = 2 * (6 + 5 * MOST_SENDERS) + 5;
 
 const ENTRY_LENGTH: usize = 3;
 
-const BEGIN_KIND: u8 = 1;
-
-const RECEIVE_KIND: u8 = 2;
-
-const ACT_KIND: u8 = 3;
-
-// The body of an Act: the offered block, and the priority.
-#[derive(Clone, Copy)]
-pub struct Offer {
-    pub name: u64,
-    pub priority: u64,
-    pub count: u16,
+// What an event calls, by the number in its mark.
+#[derive(Clone, Copy, PartialEq, Eq)]
+enum Kind {
+    Begin = 1,
+    Receive = 2,
+    Act = 3,
 }
 
-// What the call of an event answered, Begin's with the beat asked for; and the record's head afterwards.
+// What the call of an event answered, Begin's with the beat asked for.
 #[derive(Clone, Copy)]
 pub enum Answered {
-    Begun(u32, Start),
-    Taken(Taken),
-    Acted(Made),
-}
-
-#[derive(Clone, Copy)]
-pub struct Called {
-    pub answer: Answered,
-    pub head: Head,
+    Begun(u32, Result<(), Refusal>),
+    Taken(Result<Answer, Refusal>),
+    Acted(Result<Made, Refusal>),
 }
 
 // The text of a roll, at the front of the lent buffer, and how many bytes it has. A buffer shorter than the longest roll is left as
@@ -83,30 +72,28 @@ pub fn roll_text(roll: &[u8], text: &mut [u8]) -> usize
     if text.len() < MOST_ROLL {
         return 0;
     }
-    if is_misshapen(roll) {
+    let Some(roll) = Roll::read(roll) else {
         return put_no_roll(text);
-    }
+    };
     let mut names = [0; LEAST_LENT];
     let mut counts = [0; LEAST_LENT];
     let mut totals = [0; MOST_BLOCKS];
-    if is_shut(roll, &names, &counts, &totals) {
+    let Some(bench) = opened(roll, &names, &counts, &totals) else {
         return put_no_roll(text);
-    }
-    let bench = opened(roll, &names, &counts, &totals);
+    };
     let p = put_first_line(text, roll);
-    let events = events_of(roll);
     let ran = run_events(
         bench,
         &mut names,
         &mut counts,
         &mut totals,
         roll,
-        events,
+        roll.events(),
         text,
         p,
         true,
     );
-    ran.end
+    ran.answer
 }
 
 // The page of a roll, at the front of the lent buffer, and its length: what the bench holds after the first calls, made on the lent
@@ -127,10 +114,12 @@ pub fn roll_page(
         page.new }
 {
     let mut totals = [0; MOST_BLOCKS];
-    if is_nothing_shown(PAGE_LENGTH, roll, calls, names, counts, &totals, page) {
+    let Some(roll) = shown(PAGE_LENGTH, roll, calls, page) else {
         return 0;
-    }
-    let bench = opened(roll, names, counts, &totals);
+    };
+    let Some(bench) = opened(roll, names, counts, &totals) else {
+        return 0;
+    };
     let ran = run_events(
         bench,
         names,
@@ -142,7 +131,7 @@ pub fn roll_page(
         0,
         false,
     );
-    let held = ran.bench;
+    let held = ran.after;
     let read = calls::support(held, names, counts);
     put_page(page, held, read)
 }
@@ -157,11 +146,13 @@ pub fn roll_made(roll: &[u8], event: usize, out: &mut [u8]) -> usize
     let mut names = [0; LEAST_LENT];
     let mut counts = [0; LEAST_LENT];
     let mut totals = [0; MOST_BLOCKS];
-    if is_none_made(roll, event, &names, &counts, &totals) {
+    let Some(roll) = acting(roll, event) else {
         return 0;
-    }
-    let at = body_place(roll, event);
-    let bench = opened(roll, &names, &counts, &totals);
+    };
+    let Some(bench) = opened(roll, &names, &counts, &totals) else {
+        return 0;
+    };
+    let at = roll.body_place(event);
     let ran = run_events(
         bench,
         &mut names,
@@ -173,8 +164,16 @@ pub fn roll_made(roll: &[u8], event: usize, out: &mut [u8]) -> usize
         0,
         false,
     );
-    let held = ran.bench;
-    act_in(held, &mut names, &mut counts, &mut totals, roll, at, out)
+    let held = ran.after;
+    act_in(
+        held,
+        &mut names,
+        &mut counts,
+        &mut totals,
+        roll.bytes,
+        at,
+        out,
+    )
 }
 
 // Where entry number `entry` of the decided log stands after the first calls of a roll. At the front of the lent buffer: the place of
@@ -188,10 +187,12 @@ pub fn roll_entry(roll: &[u8], calls: usize, entry: u32, found: &mut [u8]) -> us
     let mut names = [0; LEAST_LENT];
     let mut counts = [0; LEAST_LENT];
     let mut totals = [0; MOST_BLOCKS];
-    if is_nothing_shown(ENTRY_LENGTH, roll, calls, &names, &counts, &totals, found) {
+    let Some(roll) = shown(ENTRY_LENGTH, roll, calls, found) else {
         return 0;
-    }
-    let bench = opened(roll, &names, &counts, &totals);
+    };
+    let Some(bench) = opened(roll, &names, &counts, &totals) else {
+        return 0;
+    };
     let ran = run_events(
         bench,
         &mut names,
@@ -203,7 +204,7 @@ pub fn roll_entry(roll: &[u8], calls: usize, entry: u32, found: &mut [u8]) -> us
         0,
         false,
     );
-    let held = ran.bench;
+    let held = ran.after;
     let place = calls::find(held, &names, &counts, &totals, entry);
     put_entry(found, place)
 }

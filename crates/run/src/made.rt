@@ -1,37 +1,34 @@
 // The message that an Act of a roll made.
-ghost use Rattle.std.specs.Prelude.{◌≡◌, ◌<◌};
+ghost use Rattle.std.specs.Prelude.{◌≡◌, ◌<◌, true, false, MatchOption};
 ghost use Rattle.bench.specs.ByRecord.{act_of};
-ghost use Rattle.bench.specs.Answers.{lent_as, state_of};
+ghost use Rattle.bench.specs.Answers.{state_of};
 ghost use Rattle.run.specs.Roll.{offered_at, priority_at};
-ghost use Rattle.run.specs.RollSteps.{Shaped, length_for, none_made};
+ghost use Rattle.run.specs.RollSteps.{unmade, length_for};
 ghost use Rattle.run.specs.MadeBytes.{no_act, made_by, GivesMade};
 
+use super::Kind;
 use super::calling::offer_in;
-use super::form::{events_of, is_misshapen};
-use super::opening::is_shut;
-use super::{ACT_KIND, MARK_LENGTH, SIZES_LENGTH};
-use bench::{Bench, Made};
+use super::roll::Roll;
+use bench::{Bench, Made, Refusal};
 use message::{BLOCK_WIDTH, HEAD_LENGTH};
 
-fn is_no_act(roll: &[u8], event: usize) -> bool
-    requires { Shaped roll.now }
-    ensures { result ≡ no_act roll.now event }
+fn is_no_act(roll: Roll, event: usize) -> bool
+    ensures { result ≡ no_act roll.entry.bytes.now event }
 {
-    if events_of(roll) <= event {
+    if roll.events() <= event {
         return true;
     }
-    roll[SIZES_LENGTH + MARK_LENGTH * event] != ACT_KIND
+    roll.kind_at(event) != Kind::Act
 }
 
 // A message of k blocks has 16 + 10 k bytes.
-fn message_length(answer: Made) -> usize
+#[tactic(auto, unfolding(crate::specs::RollSteps::length_for))]
+fn message_length(answer: Result<Made, Refusal>) -> usize
     ensures { result ≡ length_for answer }
 {
     match answer {
-        Made::Nothing => 0,
-        Made::Log(k) => HEAD_LENGTH + BLOCK_WIDTH * (k as usize),
-        Made::Proposal(k) => HEAD_LENGTH + BLOCK_WIDTH * (k as usize),
-        Made::Refused(_) => 0,
+        Ok(Made::Log(k) | Made::Proposal(k)) => HEAD_LENGTH + BLOCK_WIDTH * usize::from(k),
+        Ok(Made::Nothing) | Err(_) => 0,
     }
 }
 
@@ -51,35 +48,18 @@ pub(crate) fn act_in(
         (priority_at roll.now at) out.old).answer.reply) out.old result out.new }
 {
     let offer = offer_in(roll, at);
-    let acted = calls::act(
-        bench,
-        names,
-        counts,
-        totals,
-        out,
-        offer.name,
-        offer.count,
-        offer.priority,
-    );
-    let answer = acted.answer;
-    message_length(answer)
+    let acted = calls::act(bench, names, counts, totals, out, offer);
+    message_length(acted.answer)
 }
 
-// The roll has another form, there is no such event or it is no Act, or Open refuses.
-pub(crate) fn is_none_made(
-    roll: &[u8],
-    event: usize,
-    names: &[u64],
-    counts: &[u16],
-    totals: &[u32],
-) -> bool
-    ensures { result ≡ none_made roll.now event (lent_as names.now counts.now totals.now) }
+// A roll that has an Act at this event. None where the roll has another form, there is no such event or it is no Act.
+pub(crate) fn acting<'a>(bytes: &'a [u8], event: usize) -> Option<Roll<'a>>
+    ensures { MatchOption result (unmade bytes.now event ≡ true)
+        (λ r. (unmade r.bytes.now event ≡ false) × (r.bytes.now ≡ bytes.now)) }
 {
-    if is_misshapen(roll) {
-        return true;
-    }
+    let roll = Roll::read(bytes)?;
     if is_no_act(roll, event) {
-        return true;
+        return None;
     }
-    is_shut(roll, names, counts, totals)
+    Some(roll)
 }

@@ -1,32 +1,25 @@
-// Whether anything is shown of what a roll's bench holds.
-ghost use Rattle.std.specs.Prelude.{◌≡◌};
-ghost use Rattle.bench.specs.Answers.{lent_as};
-ghost use Rattle.run.specs.Held.{nothing_shown};
+// The roll of which something is shown.
+ghost use Rattle.std.specs.Prelude.{◌≡◌, true, false, MatchOption};
+ghost use Rattle.run.specs.RollSteps.{unshown};
 
-use super::form::{events_of, is_misshapen};
-use super::opening::is_shut;
+use super::roll::Roll;
 
-// The buffer has fewer bytes than are needed, the roll has another form or fewer calls, or Open refuses.
-pub(crate) fn is_nothing_shown(
+// None where the buffer has fewer bytes than are needed, or the roll has another form or fewer calls.
+pub(crate) fn shown<'a>(
     least: usize,
-    roll: &[u8],
+    bytes: &'a [u8],
     calls: usize,
-    names: &[u64],
-    counts: &[u16],
-    totals: &[u32],
     buffer: &[u8],
-) -> bool
-    ensures { result ≡ nothing_shown least roll.now calls
-        (lent_as names.now counts.now totals.now) buffer.now }
+) -> Option<Roll<'a>>
+    ensures { MatchOption result (unshown least bytes.now calls buffer.now ≡ true)
+        (λ r. (unshown least r.bytes.now calls buffer.now ≡ false) × (r.bytes.now ≡ bytes.now)) }
 {
     if buffer.len() < least {
-        return true;
+        return None;
     }
-    if is_misshapen(roll) {
-        return true;
+    let roll = Roll::read(bytes)?;
+    if roll.events() < calls {
+        return None;
     }
-    if events_of(roll) < calls {
-        return true;
-    }
-    is_shut(roll, names, counts, totals)
+    Some(roll)
 }

@@ -4,6 +4,7 @@ use Rattle.std.specs.Prelude.{ℕ, List, [], ◌∷◌, ◌≡◌}
 use Rattle.message.specs.Logs.{Block}
 use Rattle.bench.specs.Calls.{Call, begin, receive, act, Answer, State}
 use Rattle.bench.specs.Answers.{state_of, start_reply, taken_reply, made_reply}
+use Rattle.bench.specs.declared.Bench.{Bench}
 use Rattle.demand.specs.Demand.{Event, onLent, runs, answers}
 use Rattle.demand.specs.TheBench.{the_bench}
 use Rattle.schedules.specs.declared.gathering.Gathered.{Gathered}
@@ -23,6 +24,6 @@ answers_in r out =
     ∷ []
 
 -- answers and buffer, record and lists are those of the events
-pub record GatheringGives (x : State) (es : List Event) (r : Gathered) (names counts totals out : List ℕ) : Type 0 where
+pub record GatheringGives (x : State) (es : List Event) (r : Gathered) (bench : Bench) (names counts totals out : List ℕ) : Type 0 where
   pub answered : answers_in r out ≡ answers the_bench x es
-  pub held : state_of r.bench names counts totals ≡ runs the_bench x es
+  pub held : state_of bench names counts totals ≡ runs the_bench x es

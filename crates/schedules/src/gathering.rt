@@ -1,52 +1,39 @@
-// A gathering with one message, on one lent record: Begin, Receive and Act in a row. The record is taken by value and lent here, so
-// that no caller needs a proof about references.
-ghost use Rattle.bench.specs.Answers.{state_of};
+// A gathering with one message, on one lent record: Begin, Receive and Act in a row.
+ghost use Rattle.bench.specs.Answers.{state_of, offered};
 ghost use Rattle.schedules.specs.Gathering.{gathering_of, GatheringGives};
 
-use bench::{Bench, Made, Start, Taken};
+use agreement::Answer;
+use bench::{Bench, Made, Offer, Refusal};
 
-// The three answers, and the record afterwards.
+// The three answers.
 #[derive(Clone, Copy)]
 pub struct Gathered {
-    pub started: Start,
-    pub taken: Taken,
-    pub made: Made,
-    pub bench: Bench,
+    pub started: Result<(), Refusal>,
+    pub taken: Result<Answer, Refusal>,
+    pub made: Result<Made, Refusal>,
 }
 
+// A block may be offered, with the priority that a proposal of it has.
 pub fn gather(
-    bench: Bench,
+    bench: &mut Bench,
     names: &mut [u64],
     counts: &mut [u16],
     totals: &mut [u32],
     out: &mut [u8],
     message: &[u8],
     beat: u32,
-    name: u64,
-    count: u16,
-    priority: u64,
+    offer: Offer,
 ) -> Gathered
-    ensures { GatheringGives (state_of bench names.old counts.old totals.old)
-        (gathering_of beat message.now (record { name = name; count = count }) priority out.old) result names.new
-        counts.new totals.new out.new }
+    ensures { GatheringGives (state_of bench.old names.old counts.old totals.old)
+        (gathering_of beat message.now (offered offer) offer.priority out.old) result bench.new
+        names.new counts.new totals.new out.new }
 {
-    let mut record = bench;
-    let started = lent::begin(&mut record, names, counts, totals, beat);
-    let taken = lent::receive(&mut record, names, counts, totals, message);
-    let made = lent::act(
-        &mut record,
-        names,
-        counts,
-        totals,
-        out,
-        name,
-        count,
-        priority,
-    );
+    let started = lent::begin(bench, names, counts, totals, beat);
+    let taken = lent::receive(bench, names, counts, totals, message);
+    let made = lent::act(bench, names, counts, totals, out, offer);
     Gathered {
         started,
         taken,
         made,
-        bench: record,
     }
 }

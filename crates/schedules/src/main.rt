@@ -9,34 +9,21 @@ mod print;
 mod schedule;
 mod turn;
 
-use bench::LEAST_LENT;
-use message::MOST_BLOCKS;
-use script::read_full;
+use schedule::Replica;
+use script::{Clauses, read_full};
 use std::io;
-use turn::take_turn;
+use turn::Turns;
 
-// The lent lists are not cleared for a fresh bench: no call reads of them what its bench has not filed.
-fn do_rows(rt: &impl Print, script: &[u8]) -> io::Result<()> {
-    let mut names = [0u64; LEAST_LENT];
-    let mut counts = [0u16; LEAST_LENT];
-    let mut totals = [0u32; MOST_BLOCKS];
-    let opened = calls::open(1, 0, &names, &counts, &totals);
-    let mut bench = opened.bench;
-    let mut at = 0;
-    while at < script.len() {
-        let turn = take_turn(rt, script, at, bench, &mut names, &mut counts, &mut totals)?;
-        // No clause ends where it starts; with this test the loop is known to end.
-        if turn.next <= at {
-            return Ok(());
-        }
-        bench = turn.bench;
-        at = turn.next;
+fn do_rows(rt: &impl Print, turns: Turns) -> io::Result<()> {
+    let mut replica = Replica::fresh();
+    for turn in turns {
+        replica.take(rt, turn)?;
     }
     Ok(())
 }
 
 fn main(rt: HostRuntime) -> io::Result<()> {
     let mut space = [0u8; 16384];
-    let length = read_full(&mut rt.reader(), &mut space)?;
-    do_rows(&rt, &space[..length])
+    let script = read_full(&mut rt.reader(), &mut space)?;
+    do_rows(&rt, Turns::new(Clauses::new(script)))
 }

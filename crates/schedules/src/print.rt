@@ -1,58 +1,54 @@
 // Answers in print, behind what the call was handed; a refusal is its number.
-use bench::{Bench, Entry, Made, Start, Taken};
-use script::{say, say_number};
-use std::io;
+use agreement::Answer;
+use bench::{Entry, Head, Made, Refusal};
+use std::{fmt, io};
 
-fn say_refusal(rt: &impl Print, x: u8) -> io::Result<()> {
-    say(rt, b": ")?;
-    say_number(rt, x as u64)
-}
-
-pub(crate) fn say_start(rt: &impl Print, answer: Start) -> io::Result<()> {
+pub(crate) fn say<T: fmt::Display + Drop>(
+    rt: &impl Print,
+    answer: Result<T, Refusal>,
+) -> io::Result<()> {
     match answer {
-        Start::Done => say(rt, b": ok"),
-        Start::Refused(x) => say_refusal(rt, x),
+        Ok(words) => print!(rt; ": {words}"),
+        Err(why) => print!(rt; ": {}", u8::from(why)),
     }
 }
 
-pub(crate) fn say_taken(rt: &impl Print, answer: Taken) -> io::Result<()> {
+// Kept in each program: no crate below both prints.
+pub(crate) fn word_for(answer: Answer) -> &'static str {
     match answer {
-        Taken::First => say(rt, b": first"),
-        Taken::Second => say(rt, b": second"),
-        Taken::Known => say(rt, b": known"),
-        Taken::Refused(x) => say_refusal(rt, x),
+        Answer::First => "first",
+        Answer::Second => "second",
+        Answer::Known => "known",
     }
 }
 
 // What was made, its blocks, the decided blocks afterwards, and the mark.
-fn say_act(rt: &impl Print, made: &[u8], blocks: u8, bench: Bench) -> io::Result<()> {
-    say(rt, made)?;
-    say_number(rt, blocks as u64)?;
-    say(rt, b" ")?;
-    say_number(rt, bench.head.decided as u64)?;
-    if bench.head.parted != 0 {
-        say(rt, b" parted")?;
-    }
-    Ok(())
+#[derive(Clone, Copy)]
+pub(crate) struct Act {
+    pub(crate) made: Made,
+    pub(crate) after: Head,
 }
 
-pub(crate) fn say_made(rt: &impl Print, answer: Made, bench: Bench) -> io::Result<()> {
-    match answer {
-        Made::Nothing => say_act(rt, b": none ", 0, bench),
-        Made::Log(blocks) => say_act(rt, b": log ", blocks, bench),
-        Made::Proposal(blocks) => say_act(rt, b": proposal ", blocks, bench),
-        Made::Refused(x) => say_refusal(rt, x),
-    }
-}
-
-pub(crate) fn say_entry(rt: &impl Print, answer: Entry) -> io::Result<()> {
-    match answer {
-        Entry::At(block, inside) => {
-            say(rt, b": block ")?;
-            say_number(rt, block as u64)?;
-            say(rt, b" place ")?;
-            say_number(rt, inside as u64)
+impl fmt::Display for Act {
+    fn fmt<W: fmt::Write>(&self, f: &mut fmt::Formatter<W>) -> fmt::Result {
+        let (kind, blocks) = match self.made {
+            Made::Nothing => ("none", 0),
+            Made::Log(blocks) => ("log", blocks),
+            Made::Proposal(blocks) => ("proposal", blocks),
+        };
+        write!(f, "{kind} {blocks} {}", self.after.decided)?;
+        if self.after.parted != 0 {
+            write!(f, " parted")?;
         }
-        Entry::Refused(x) => say_refusal(rt, x),
+        Ok(())
+    }
+}
+
+#[derive(Clone, Copy)]
+pub(crate) struct Place(pub(crate) Entry);
+
+impl fmt::Display for Place {
+    fn fmt<W: fmt::Write>(&self, f: &mut fmt::Formatter<W>) -> fmt::Result {
+        write!(f, "block {} place {}", self.0.block, self.0.inside)
     }
 }

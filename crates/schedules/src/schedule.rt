@@ -1,139 +1,211 @@
-// The calls on a record by value: a clause says what a call is handed, and the answer is written behind it.
+// The calls on a record: a clause says what a call is handed, and the answer is written behind it.
 ghost use Rattle.std.specs.Prelude.{◌≤◌};
 
 use super::form;
-use super::form::{LONGEST, front};
-use super::print::{say_entry, say_made, say_start, say_taken};
-use bench::{Bench, LEAST_LENT, MOST_BYTES};
+use super::form::LONGEST;
+use super::gathering::gather;
+use super::print::{Act, Place, say, word_for};
+use super::turn::Turn;
+use agreement::Answer;
+use bench::{Bench, Entry, LEAST_LENT, MOST_BYTES, Made, Offer, Refusal};
+use message::MOST_BLOCKS;
 use script::Clause;
 use std::io;
 
 // The length that the clause has behind this mark, at most that of all there is; all there is where it has none.
-pub(crate) fn length(c: Clause, mark: u8, most: usize) -> usize
+fn length(c: Clause, mark: u8, most: usize) -> usize
     ensures { result ≤ most }
 {
-    let said = c.place(mark);
-    if said == 0 {
-        return most;
+    match c.place(mark) {
+        0 => most,
+        said => said.min(most),
     }
-    if said < most {
-        return said;
+}
+
+// "act offering 5, priority 9": the offered block has one entry.
+fn offer(c: Clause) -> Offer {
+    Offer {
+        name: c.number(b'g'),
+        priority: c.number(b'y'),
+        count: 1,
     }
-    most
 }
 
-// "bench 0 of 4", of which no answer is written, or "open 0 of 4", also with the length of a list, as "name 6207", "count 6207" or
-// "total 63". The number of its own stands behind one of the two words.
-fn open(
-    rt: &impl Print,
-    c: Clause,
-    names: &[u64],
-    counts: &[u16],
-    totals: &[u32],
-) -> io::Result<Bench> {
-    let own = c.byte(b'h') | c.byte(b'n');
-    let i = length(c, b'e', names.len());
-    let j = length(c, b't', counts.len());
-    let k = length(c, b'l', totals.len());
-    let opened = calls::open(
-        c.byte(b'f'),
-        own,
-        &names[0..i],
-        &counts[0..j],
-        &totals[0..k],
-    );
-    if c.word == b'o' {
-        let answer = opened.answer;
-        say_start(rt, answer)?;
+// The record and the lent lists, in the form that the calls take. They are not cleared for a fresh bench: no call reads of them what its bench has not filed.
+#[derive(Drop)]
+pub(crate) struct Replica {
+    bench: Bench,
+    names: [u64; LEAST_LENT],
+    counts: [u16; LEAST_LENT],
+    totals: [u32; MOST_BLOCKS],
+}
+
+impl Replica {
+    pub(crate) fn fresh() -> Replica {
+        let names = [0u64; LEAST_LENT];
+        let counts = [0u16; LEAST_LENT];
+        let totals = [0u32; MOST_BLOCKS];
+        Replica {
+            bench: calls::open(1, 0, &names, &counts, &totals).after,
+            names,
+            counts,
+            totals,
+        }
     }
-    Ok(opened.bench)
-}
 
-// One of these, or "begin 4". This call and those below may say the length of the totals, as "total 63".
-pub(crate) fn start(
-    rt: &impl Print,
-    c: Clause,
-    before: Bench,
-    names: &[u64],
-    counts: &[u16],
-    totals: &[u32],
-) -> io::Result<Bench> {
-    if (c.word == b'o') | (0 < c.digits(b'h')) {
-        return open(rt, c, names, counts, totals);
+    // "bench 0 of 4" or "open 0 of 4", also with the length of a list, as "name 6207", "count 6207" or "total 63". The number of its own
+    // stands behind one of the two words.
+    fn open(&mut self, c: Clause) -> Result<(), Refusal> {
+        let i = length(c, b'e', LEAST_LENT);
+        let j = length(c, b't', LEAST_LENT);
+        let k = length(c, b'l', MOST_BLOCKS);
+        let opened = calls::open(
+            c.byte(b'f'),
+            c.byte(b'h') | c.byte(b'n'),
+            &self.names[..i],
+            &self.counts[..j],
+            &self.totals[..k],
+        );
+        self.bench = opened.after;
+        opened.answer
     }
-    let k = length(c, b'l', totals.len());
-    let started = calls::begin(before, names, counts, &totals[0..k], c.long(b'n'));
-    let answer = started.answer;
-    say_start(rt, answer)?;
-    Ok(started.bench)
-}
 
-// "view 1 LOG [5] from 1"
-pub(crate) fn receive(
-    rt: &impl Print,
-    c: Clause,
-    before: Bench,
-    names: &mut [u64; LEAST_LENT],
-    counts: &mut [u16; LEAST_LENT],
-    totals: &[u32],
-) -> io::Result<Bench> {
-    let mut bytes = [0u8; LONGEST];
-    form::write(&mut bytes, c);
-    let k = length(c, b'l', totals.len());
-    let received = calls::receive(before, names, counts, &totals[0..k], front(&bytes, c));
-    let answer = received.answer;
-    say_taken(rt, answer)?;
-    Ok(received.bench)
-}
-
-// "act", "act offering 5, priority 9" or "act into 655 bytes". The offered block has one entry.
-pub(crate) fn act(
-    rt: &impl Print,
-    c: Clause,
-    before: Bench,
-    names: &mut [u64; LEAST_LENT],
-    counts: &mut [u16; LEAST_LENT],
-    totals: &mut [u32],
-) -> io::Result<Bench> {
-    let mut out = [0u8; MOST_BYTES];
-    let size = length(c, b'o', MOST_BYTES);
-    let k = length(c, b'l', totals.len());
-    let acted = calls::act(
-        before,
-        names,
-        counts,
-        &mut totals[0..k],
-        &mut out[0..size],
-        c.number(b'g'),
-        1,
-        c.number(b'y'),
-    );
-    let answer = acted.answer;
-    let bench = acted.bench;
-    say_made(rt, answer, bench)?;
-    Ok(bench)
-}
-
-// "find 4": the record is as it was.
-pub(crate) fn find(
-    rt: &impl Print,
-    c: Clause,
-    before: Bench,
-    names: &[u64],
-    counts: &[u16],
-    totals: &[u32],
-) -> io::Result<Bench> {
-    let k = length(c, b'l', totals.len());
-    let answer = calls::find(before, names, counts, &totals[0..k], c.long(b'd'));
-    say_entry(rt, answer)?;
-    Ok(before)
-}
-
-// "total 2 to 9" is no call: that total is written over, as nobody should.
-pub(crate) fn spoil(c: Clause, before: Bench, totals: &mut [u32]) -> Bench {
-    let at = c.place(b'l');
-    if at < totals.len() {
-        totals[at] = c.long(b'o');
+    // "begin 4". This call and those below may say the length of the totals, as "total 63".
+    fn begin(&mut self, c: Clause) -> Result<(), Refusal> {
+        let k = length(c, b'l', MOST_BLOCKS);
+        let begun = calls::begin(
+            self.bench,
+            &self.names,
+            &self.counts,
+            &self.totals[..k],
+            c.long(b'n'),
+        );
+        self.bench = begun.after;
+        begun.answer
     }
-    before
+
+    // "view 1 LOG [5] from 1"
+    fn receive(&mut self, c: Clause) -> Result<Answer, Refusal> {
+        let mut space = [0; LONGEST];
+        let k = length(c, b'l', MOST_BLOCKS);
+        let received = calls::receive(
+            self.bench,
+            &mut self.names,
+            &mut self.counts,
+            &self.totals[..k],
+            form::write(&mut space, c),
+        );
+        self.bench = received.after;
+        received.answer
+    }
+
+    // "act", "act offering 5, priority 9" or "act into 655 bytes"
+    fn act(&mut self, c: Clause) -> Result<Made, Refusal> {
+        let mut out = [0u8; MOST_BYTES];
+        let size = length(c, b'o', MOST_BYTES);
+        let k = length(c, b'l', MOST_BLOCKS);
+        let totals = &mut self.totals[..];
+        let acted = calls::act(
+            self.bench,
+            &mut self.names,
+            &mut self.counts,
+            &mut totals[..k],
+            &mut out[..size],
+            offer(c),
+        );
+        self.bench = acted.after;
+        acted.answer
+    }
+
+    // "find 4"
+    fn find(&self, c: Clause) -> Result<Entry, Refusal> {
+        let k = length(c, b'l', MOST_BLOCKS);
+        calls::find(
+            self.bench,
+            &self.names,
+            &self.counts,
+            &self.totals[..k],
+            c.long(b'd'),
+        )
+    }
+
+    // "total 2 to 9" is no call: that total is written over, as nobody should.
+    fn spoil(&mut self, c: Clause) {
+        if let Some(total) = self.totals.get_mut(c.place(b'l')) {
+            *total = c.long(b'o');
+        }
+    }
+
+    fn say_act(&self, rt: &impl Print, answer: Result<Made, Refusal>) -> io::Result<()> {
+        let after = self.bench.head;
+        say(rt, answer.map(|made| Act { made, after }))
+    }
+
+    // Where a clause says nothing, as behind the bar of a row that goes on with its bench, the record stays. Kept as a match on letters: the
+    // script says them.
+    fn call(&mut self, rt: &impl Print, c: Clause) -> io::Result<()> {
+        match c.word() {
+            // of "bench 0 of 4" no answer is written
+            Some(b'b') if 0 < c.digits(b'h') => {
+                let _ = self.open(c);
+                Ok(())
+            }
+            Some(b'o') => say(rt, self.open(c).map(|()| "ok")),
+            Some(b'b') => say(rt, self.begin(c).map(|()| "ok")),
+            Some(b'v') => say(rt, self.receive(c).map(word_for)),
+            Some(b'a') => {
+                let answer = self.act(c);
+                self.say_act(rt, answer)
+            }
+            Some(b'f') => say(rt, self.find(c).map(Place)),
+            Some(b't') => {
+                self.spoil(c);
+                Ok(())
+            }
+            _ => Ok(()),
+        }
+    }
+
+    // The three clauses are done before the last two are written.
+    fn lend(
+        &mut self,
+        rt: &impl Print,
+        begin: Clause,
+        receive: Clause,
+        act: Clause,
+    ) -> io::Result<()> {
+        begin.write(rt)?;
+        let mut space = [0; LONGEST];
+        let k = length(begin, b'l', MOST_BLOCKS);
+        let totals = &mut self.totals[..];
+        let gathered = gather(
+            &mut self.bench,
+            &mut self.names,
+            &mut self.counts,
+            &mut totals[..k],
+            &mut [0; MOST_BYTES],
+            form::write(&mut space, receive),
+            begin.long(b'n'),
+            offer(act),
+        );
+        say(rt, gathered.started.map(|()| "ok"))?;
+        begin.write_end(rt)?;
+        receive.write(rt)?;
+        say(rt, gathered.taken.map(word_for))?;
+        receive.write_end(rt)?;
+        act.write(rt)?;
+        self.say_act(rt, gathered.made)?;
+        act.write_end(rt)
+    }
+
+    pub(crate) fn take(&mut self, rt: &impl Print, turn: Turn) -> io::Result<()> {
+        match turn {
+            Turn::Call(c) => {
+                c.write(rt)?;
+                self.call(rt, c)?;
+                c.write_end(rt)
+            }
+            Turn::Lent(begin, receive, act) => self.lend(rt, begin, receive, act),
+        }
+    }
 }

@@ -1,91 +1,46 @@
-// What the clauses say, one after the other: each is written and done, and its answer written behind it.
-use super::form;
-use super::form::{LONGEST, front};
-use super::gathering::gather;
-use super::print::{say_made, say_start, say_taken};
-use super::schedule::{act, find, length, receive, spoil, start};
-use bench::{Bench, LEAST_LENT, MOST_BYTES};
-use message::MOST_BLOCKS;
-use script::{Clause, clause_at};
-use std::io;
+// The turns of a script, one after the other.
+ghost use Rattle.std.specs.Prelude.{◌≤◌, length};
+ghost use Rattle.std.specs.Iterator.{at_most};
 
-// The record afterwards, and where the next clause starts.
+use script::{Clause, Clauses};
+
+// The call of a clause, or "lent: begin 1; view 0 LOG [5] from 1; act": three clauses on one lent record.
 #[derive(Clone, Copy)]
-pub(crate) struct Turn {
-    pub(crate) bench: Bench,
-    pub(crate) next: usize,
+pub(crate) enum Turn<'a> {
+    Call(Clause<'a>),
+    Lent(Clause<'a>, Clause<'a>, Clause<'a>),
 }
 
-// "lent: begin 1; view 0 LOG [5] from 1; act": three clauses on one lent record. They are done before the last two are written.
-fn lend(
-    rt: &impl Print,
-    script: &[u8],
-    c: Clause,
-    before: Bench,
-    names: &mut [u64; LEAST_LENT],
-    counts: &mut [u16; LEAST_LENT],
-    totals: &mut [u32],
-) -> io::Result<Turn> {
-    let view = clause_at(script, c.next);
-    let last = clause_at(script, view.next);
-    let mut bytes = [0u8; LONGEST];
-    form::write(&mut bytes, view);
-    let k = length(c, b'l', totals.len());
-    let gathered = gather(
-        before,
-        names,
-        counts,
-        &mut totals[0..k],
-        &mut [0; MOST_BYTES],
-        front(&bytes, view),
-        c.long(b'n'),
-        last.number(b'g'),
-        1,
-        last.number(b'y'),
-    );
-    let started = gathered.started;
-    say_start(rt, started)?;
-    c.write_end(rt)?;
-    view.write(rt, script)?;
-    let taken = gathered.taken;
-    say_taken(rt, taken)?;
-    view.write_end(rt)?;
-    last.write(rt, script)?;
-    let made = gathered.made;
-    let bench = gathered.bench;
-    say_made(rt, made, bench)?;
-    last.write_end(rt)?;
-    Ok(Turn {
-        bench,
-        next: last.next,
-    })
+#[derive(Clone, Copy)]
+pub(crate) struct Turns<'a> {
+    clauses: Clauses<'a>,
 }
 
-// The clause at this place. Where it says nothing, as behind the bar of a row that goes on with its bench, the record stays.
-pub(crate) fn take_turn(
-    rt: &impl Print,
-    script: &[u8],
-    at: usize,
-    before: Bench,
-    names: &mut [u64; LEAST_LENT],
-    counts: &mut [u16; LEAST_LENT],
-    totals: &mut [u32; MOST_BLOCKS],
-) -> io::Result<Turn> {
-    let c = clause_at(script, at);
-    c.write(rt, script)?;
-    let word = c.word;
-    let bench = match word {
-        b'b' | b'o' => start(rt, c, before, names, counts, totals)?,
-        b'v' => receive(rt, c, before, names, counts, totals)?,
-        b'a' => act(rt, c, before, names, counts, totals)?,
-        b'f' => find(rt, c, before, names, counts, totals)?,
-        b't' => spoil(c, before, totals),
-        b'l' => return lend(rt, script, c, before, names, counts, totals),
-        _ => before,
-    };
-    c.write_end(rt)?;
-    Ok(Turn {
-        bench,
-        next: c.next,
-    })
+// The next clause, and one that says nothing where none is left.
+fn following<'a>(clauses: &mut Clauses<'a>) -> Clause<'a>
+    ensures { length clauses.new.rest.now ≤ length clauses.old.rest.now }
+{
+    clauses.next().unwrap_or(Clause::empty())
+}
+
+impl<'a> Turns<'a> {
+    pub(crate) fn new(clauses: Clauses<'a>) -> Turns<'a> {
+        Turns { clauses }
+    }
+}
+
+impl<'a> Iterator for Turns<'a> {
+    type Item = Turn<'a>;
+
+    ghost remaining = { λ s. at_most (length s.clauses.rest.now) };
+
+    fn next(&mut self) -> Option<Turn<'a>> {
+        let first = self.clauses.next()?;
+        if first.word() != Some(b'l') {
+            return Some(Turn::Call(first));
+        }
+        let second = following(&mut self.clauses);
+        let third = following(&mut self.clauses);
+        Some(Turn::Lent(first, second, third))
+    }
 }

@@ -1,26 +1,29 @@
 // The log that a clause names. A digit in brackets is the name of a block.
-use message::{BLOCK_WIDTH, HEAD_LENGTH, MOST_BLOCKS};
-use script::Clause;
+use message::{BLOCK_WIDTH, HEAD_LENGTH, MOST_BLOCKS, writer};
+use script::{Clause, NO_MARK};
 
 // The longest LOG.
 const MOST_BYTES: usize = HEAD_LENGTH + BLOCK_WIDTH * MOST_BLOCKS;
 
+// The number in front of all words.
+pub(crate) fn sender(c: Clause) -> u8 {
+    c.byte(NO_MARK)
+}
+
 // As many blocks as digits, or as the clause says: [7,7,7,.. of 64].
 fn blocks(c: Clause) -> usize {
-    let said = c.place(b'f');
-    if said == 0 {
-        return c.digits(b'[') as usize;
+    match c.place(b'f') {
+        0 => usize::from(c.digits(b'[')),
+        said => said,
     }
-    said
 }
 
 // The entry count of each block, 1 where the clause says none.
 fn entry_count(c: Clause) -> u16 {
-    let said = c.short(b'/');
-    if said == 0 {
-        return 1;
+    match c.short(b'/') {
+        0 => 1,
+        said => said,
     }
-    said
 }
 
 // A list that ends with the log: the last three digits, and before them the last one again, since a log of more than three blocks
@@ -39,13 +42,13 @@ pub(crate) fn log_bytes(c: Clause) -> [u8; MOST_BYTES] {
     let counts = [entry_count(c); 64];
     let mut bytes = [0u8; MOST_BYTES];
     if k <= MOST_BLOCKS {
-        message::writer::write_log(
+        writer::write_log(
             &mut bytes,
             &names,
             &counts,
             MOST_BLOCKS - k,
             k,
-            c.byte(0),
+            sender(c),
             0,
         );
     }
@@ -61,13 +64,6 @@ pub(crate) fn proposal_bytes(c: Clause) -> [u8; MOST_BYTES] {
 }
 
 // The message alone, as many bytes as its blocks make.
-pub(crate) fn front(bytes: &[u8], c: Clause) -> &[u8] {
-    let k = blocks(c);
-    if k <= MOST_BLOCKS {
-        let size = HEAD_LENGTH + BLOCK_WIDTH * k;
-        if size <= bytes.len() {
-            return &bytes[0..size];
-        }
-    }
-    bytes
+pub(crate) fn front<'a>(bytes: &'a [u8; MOST_BYTES], c: Clause) -> &'a [u8] {
+    &bytes[..HEAD_LENGTH + BLOCK_WIDTH * blocks(c).min(MOST_BLOCKS)]
 }

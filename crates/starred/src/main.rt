@@ -6,25 +6,22 @@ mod log;
 mod row;
 
 use row::Row;
-use script::{clause_at, read_full};
+use script::{Clauses, read_full};
 use std::io;
 
-// Clause after clause: it is written, then taken, and what it asks for stands behind it.
-fn run(rt: &impl Print, script: &[u8]) -> io::Result<()> {
-    let mut row = Row::empty();
-    let mut at = 0;
-    while at < script.len() {
-        let c = clause_at(script, at);
-        c.write(rt, script)?;
-        row = row.after(rt, c)?;
+// Clause after clause: it is written, then taken, and what it asks for stands behind it. Kept in each program: a function of script
+// that prints could promise nothing.
+fn run(rt: &impl Print, script: &[u8], row: &mut Row) -> io::Result<()> {
+    for c in Clauses::new(script) {
+        c.write(rt)?;
+        row.take(rt, c)?;
         c.write_end(rt)?;
-        at = c.next;
     }
     Ok(())
 }
 
 fn main(rt: HostRuntime) -> io::Result<()> {
     let mut space = [0u8; 8192];
-    let length = read_full(&mut rt.reader(), &mut space)?;
-    run(&rt, &space[..length])
+    let script = read_full(&mut rt.reader(), &mut space)?;
+    run(&rt, script, &mut Row::empty())
 }

@@ -1,9 +1,9 @@
 // A row of the table: what its clauses have done so far, and what its last clause asks for.
-use super::log::{front, log_bytes, proposal_bytes};
-use agreement::{Answer, Choice, Grade, Marks, SPAN, Shown, filing, grading, proposing};
-use message::MOST_BLOCKS;
-use script::{Clause, say, say_number};
-use std::io;
+use super::log::{front, log_bytes, proposal_bytes, sender};
+use agreement::{Answer, Marks, SPAN, Shown, filing, grading, proposing};
+use message::{MOST_BLOCKS, store};
+use script::Clause;
+use std::{fmt, io};
 
 // The lock stands in the lists past the logs of all senders, as the log of one more.
 const LOCK: u8 = 32;
@@ -11,7 +11,8 @@ const LOCK: u8 = 32;
 const PLACES: usize = SPAN + MOST_BLOCKS;
 
 // The lists, the agreement and the blocks of its logs, the proposals with their blocks and priorities, the answer to the last
-// message, and the number of the lock's blocks.
+// message, and the number of the lock's blocks. Names and counts are kept two lists, and the arrays of 32 beside the
+// marks, since agreement takes them so.
 #[derive(Clone, Copy)]
 pub(crate) struct Row {
     names: [u64; PLACES],
@@ -25,16 +26,42 @@ pub(crate) struct Row {
     lock: u8,
 }
 
-fn say_answer(rt: &impl Print, answer: Answer) -> io::Result<()> {
-    match answer {
-        Answer::First => say(rt, b"first"),
-        Answer::Second => say(rt, b"second"),
-        Answer::Known => say(rt, b"known"),
+// A log in print: its blocks in brackets, each by its name, and by its entry count where that is not 1; of more than three, the
+// first three and how many there are.
+#[derive(Clone, Copy)]
+struct Log<'a> {
+    names: &'a [u64],
+    counts: &'a [u16],
+    blocks: u8,
+}
+
+impl fmt::Display for Log<'_> {
+    fn fmt<W: fmt::Write>(&self, f: &mut fmt::Formatter<W>) -> fmt::Result {
+        let shown = usize::from(self.blocks.min(3));
+        write!(f, "[")?;
+        for (i, (name, count)) in self.names.iter().zip(self.counts).take(shown).enumerate() {
+            if 0 < i {
+                write!(f, ",")?;
+            }
+            write!(f, "{name}")?;
+            if *count != 1 {
+                write!(f, "/{count}")?;
+            }
+        }
+        if 3 < self.blocks {
+            write!(f, ",.. of {}", self.blocks)?;
+        }
+        write!(f, "]")
     }
 }
 
-fn say_byte(rt: &impl Print, b: u8) -> io::Result<()> {
-    say(rt, &[b])
+// Kept in each program: no crate below both prints.
+fn word_for(answer: Answer) -> &'static str {
+    match answer {
+        Answer::First => "first",
+        Answer::Second => "second",
+        Answer::Known => "known",
+    }
 }
 
 impl Row {
@@ -54,203 +81,123 @@ impl Row {
 
     // ---- the clauses that do something
 
-    fn send(self, c: Clause) -> Row {
-        let mut lengths = self.lengths;
-        let mut names = self.names;
-        let mut counts = self.counts;
+    fn send(&mut self, c: Clause) {
         let bytes = log_bytes(c);
         let filed = filing::file(
             self.marks,
-            &mut lengths,
-            &mut names,
-            &mut counts,
+            &mut self.lengths,
+            &mut self.names,
+            &mut self.counts,
             0,
             front(&bytes, c),
-            c.byte(0),
+            sender(c),
         );
-        let answer = filed.answer;
-        let marks = filed.marks;
-        let shown = self.shown;
-        let proposed = self.proposed;
-        let priorities = self.priorities;
-        Row {
-            names,
-            counts,
-            marks,
-            lengths,
-            shown,
-            proposed,
-            priorities,
-            answer,
-            lock: self.lock,
-        }
+        self.answer = filed.answer;
+        self.marks = filed.after;
     }
 
-    fn propose(self, c: Clause) -> Row {
-        let mut proposed = self.proposed;
-        let mut priorities = self.priorities;
-        let mut names = self.names;
-        let mut counts = self.counts;
+    fn propose(&mut self, c: Clause) {
         let bytes = proposal_bytes(c);
         let filed = proposing::file(
             self.shown,
-            &mut proposed,
-            &mut priorities,
-            &mut names,
-            &mut counts,
+            &mut self.proposed,
+            &mut self.priorities,
+            &mut self.names,
+            &mut self.counts,
             0,
             front(&bytes, c),
-            c.byte(0),
+            sender(c),
             c.number(b'y'),
         );
-        let answer = filed.answer;
-        let shown = filed.marks;
-        let marks = self.marks;
-        let lengths = self.lengths;
-        Row {
-            names,
-            counts,
-            marks,
-            lengths,
-            shown,
-            proposed,
-            priorities,
-            answer,
-            lock: self.lock,
-        }
+        self.answer = filed.answer;
+        self.shown = filed.after;
     }
 
-    fn set_lock(self, c: Clause) -> Row {
-        let mut row = self;
-        let mut names = self.names;
-        let mut counts = self.counts;
-        message::store::file(&mut names, &mut counts, SPAN, &log_bytes(c));
-        row.lock = c.digits(b'[');
-        row.names = names;
-        row.counts = counts;
-        row
+    fn set_lock(&mut self, c: Clause) {
+        store::file(&mut self.names, &mut self.counts, SPAN, &log_bytes(c));
+        self.lock = c.digits(b'[');
     }
 
     // A LOG, snapshot one or snapshot two.
-    fn send_or_snap(self, c: Clause) -> Row {
-        let mut row = self;
-        let mark = c.mark;
-        match mark {
-            b'e' => row.marks = agreement::snap(self.marks, false),
-            b'o' => row.marks = agreement::snap(self.marks, true),
-            _ => row = self.send(c),
+    fn send_or_snap(&mut self, c: Clause) {
+        match c.mark() {
+            Some(b'e') => self.marks = agreement::snap(self.marks, false),
+            Some(b'o') => self.marks = agreement::snap(self.marks, true),
+            _ => self.send(c),
         }
-        row
     }
 
     // ---- the clauses that ask
 
-    // The name, and the entry count where it is not 1.
-    fn say_block(self, rt: &impl Print, at: usize) -> io::Result<()> {
-        if at < PLACES {
-            let count = self.counts[at];
-            say_number(rt, self.names[at])?;
-            if count != 1 {
-                say_byte(rt, b'/')?;
-                say_number(rt, count as u64)?;
-            }
-        }
-        Ok(())
-    }
-
-    // The log at this sender's place, its blocks in brackets; of more than three, the first three and how many there are.
-    fn say_log(self, rt: &impl Print, sender: u8, blocks: u8) -> io::Result<()> {
-        let at = MOST_BLOCKS * (sender as usize);
-        say_byte(rt, b'[')?;
-        if 0 < blocks {
-            self.say_block(rt, at)?;
-        }
-        if 1 < blocks {
-            say_byte(rt, b',')?;
-            self.say_block(rt, at + 1)?;
-        }
-        if 2 < blocks {
-            say_byte(rt, b',')?;
-            self.say_block(rt, at + 2)?;
-        }
-        if 3 < blocks {
-            say(rt, b",.. of ")?;
-            say_number(rt, blocks as u64)?;
-        }
-        say_byte(rt, b']')
-    }
-
-    fn say_grade(self, rt: &impl Print, grade: u8) -> io::Result<()> {
-        let lengths = self.lengths;
-        let names = self.names;
-        let counts = self.counts;
-        let found = grading::grade(self.marks, &lengths, &names, &counts, 0, grade);
-        match found {
-            Grade::Longest(sender, blocks) => self.say_log(rt, sender, blocks),
-            Grade::Nothing => say(rt, b"none"),
+    // The log at this sender's place.
+    fn log(&self, sender: u8, blocks: u8) -> Log<'_> {
+        let at = MOST_BLOCKS * usize::from(sender);
+        Log {
+            names: self.names.get(at..).unwrap_or(&[]),
+            counts: self.counts.get(at..).unwrap_or(&[]),
+            blocks,
         }
     }
 
-    // Sender i and the log of its proposal.
-    fn say_proposal(self, rt: &impl Print, i: u8) -> io::Result<()> {
-        say_number(rt, i as u64)?;
-        say_byte(rt, b' ')?;
-        if i < LOCK {
-            self.say_log(rt, i, self.proposed[i as usize])?;
+    fn print_grade(&self, rt: &impl Print, grade: u8) -> io::Result<()> {
+        match grading::grade(
+            self.marks,
+            &self.lengths,
+            &self.names,
+            &self.counts,
+            0,
+            grade,
+        ) {
+            Some(log) => rt.print(self.log(log.sender, log.blocks)),
+            None => rt.print("none"),
         }
-        Ok(())
     }
 
     // Whose proposal is voted for, or the lock, and the log of the vote.
-    fn say_vote(self, rt: &impl Print) -> io::Result<()> {
-        let proposed = self.proposed;
-        let priorities = self.priorities;
-        let names = self.names;
-        let counts = self.counts;
-        let choice = proposing::choose(
+    fn print_vote(&self, rt: &impl Print) -> io::Result<()> {
+        match proposing::choose(
             self.shown,
-            &proposed,
-            &priorities,
-            &names,
-            &counts,
+            &self.proposed,
+            &self.priorities,
+            &self.names,
+            &self.counts,
             0,
             SPAN,
-            self.lock as usize,
-        );
-        match choice {
-            Choice::Proposal(i) => self.say_proposal(rt, i),
-            Choice::Lock => {
-                say(rt, b"lock ")?;
-                self.say_log(rt, LOCK, self.lock)
+            usize::from(self.lock),
+        ) {
+            Some(i) => {
+                let blocks = self.proposed.get(usize::from(i)).copied().unwrap_or(0);
+                print!(rt; "{i} {}", self.log(i, blocks))
             }
+            None => print!(rt; "lock {}", self.log(LOCK, self.lock)),
         }
     }
 
-    // What the clause asks for, behind a colon.
-    fn say_found(self, rt: &impl Print, c: Clause) -> io::Result<()> {
-        let word = c.word;
-        let answer = self.answer;
-        say_byte(rt, b':')?;
-        say_byte(rt, b' ')?;
-        match word {
-            b'g' => self.say_grade(rt, c.byte(b'e')),
-            b'a' => say_answer(rt, answer),
-            _ => self.say_vote(rt),
+    // What the clause asks for, behind a colon. Kept as a match on letters, here and below: the script says them.
+    fn print_found(&self, rt: &impl Print, c: Clause) -> io::Result<()> {
+        print!(rt; ": ")?;
+        match c.word() {
+            Some(b'g') => self.print_grade(rt, c.byte(b'e')),
+            Some(b'a') => rt.print(word_for(self.answer)),
+            _ => self.print_vote(rt),
         }
     }
+}
 
-    // The row after this clause. The clause that ends the line asks, and the next row starts from nothing.
-    pub(crate) fn after(self, rt: &impl Print, c: Clause) -> io::Result<Row> {
-        if c.end == b'\n' {
-            self.say_found(rt, c)?;
-            return Ok(Row::empty());
+impl Row {
+    // The clause that ends the line asks, and the next row starts from nothing.
+    pub(crate) fn take(&mut self, rt: &impl Print, c: Clause) -> io::Result<()> {
+        if c.end == Some(b'\n') {
+            self.print_found(rt, c)?;
+            *self = Row::empty();
+            return Ok(());
         }
-        let word = c.word;
-        Ok(match word {
-            b's' => self.send_or_snap(c),
-            b'p' => self.propose(c),
-            b'l' => self.set_lock(c),
-            _ => self,
-        })
+        match c.word() {
+            Some(b's') => self.send_or_snap(c),
+            Some(b'p') => self.propose(c),
+            Some(b'l') => self.set_lock(c),
+            _ => {}
+        }
+        Ok(())
     }
 }

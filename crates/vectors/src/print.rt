@@ -1,47 +1,24 @@
-// Writing the answers.
+// Writing what is read.
 use message::reader::read;
 use message::{Head, Message};
-use script::{say, say_number};
-use std::io;
+use std::{fmt, io};
 
-// Nothing is written of a clause that has no end.
-pub(crate) fn say_yes(rt: &impl Print, yes: bool, end: u8) -> io::Result<()> {
-    if end == 0 {
-        return Ok(());
-    }
-    if yes { say(rt, b"yes") } else { say(rt, b"no") }
-}
+// A head in print: its view, its sender and its number of blocks.
+#[derive(Clone, Copy)]
+struct Printed(Head);
 
-fn say_head(rt: &impl Print, kind: &[u8], h: Head) -> io::Result<()> {
-    say(rt, kind)?;
-    say_number(rt, h.view as u64)?;
-    say(rt, b" ")?;
-    say_number(rt, h.sender as u64)?;
-    say(rt, b" ")?;
-    say_number(rt, h.blocks as u64)
-}
-
-// What is read in a register of four benches.
-fn say_message(rt: &impl Print, bytes: &[u8]) -> io::Result<()> {
-    let m = read(4, bytes);
-    match m {
-        Message::Refused(x) => {
-            say(rt, b"refused ")?;
-            say_number(rt, x as u64)
-        }
-        Message::Log(h) => say_head(rt, b"log ", h),
-        Message::Proposal(h, priority) => {
-            say_head(rt, b"proposal ", h)?;
-            say(rt, b" ")?;
-            say_number(rt, priority)
-        }
+impl fmt::Display for Printed {
+    fn fmt<W: fmt::Write>(&self, f: &mut fmt::Formatter<W>) -> fmt::Result {
+        let h = self.0;
+        write!(f, "{} {} {}", h.view, h.sender, h.blocks)
     }
 }
 
-// What is read in the first so many bytes.
-pub(crate) fn say_read(rt: &impl Print, bytes: &[u8], length: usize) -> io::Result<()> {
-    if length <= bytes.len() {
-        say_message(rt, &bytes[0..length])?;
+// What is read in a register of four benches; a refusal is its number.
+pub(crate) fn print_read(rt: &impl Print, bytes: &[u8]) -> io::Result<()> {
+    match read(4, bytes) {
+        Ok(Message::Log(h)) => print!(rt; "log {}", Printed(h)),
+        Ok(Message::Proposal(h, priority)) => print!(rt; "proposal {} {priority}", Printed(h)),
+        Err(why) => print!(rt; "refused {}", u8::from(why)),
     }
-    Ok(())
 }

@@ -57,6 +57,7 @@ fn links_and_paths_lead_somewhere() {
         "docs/DECISIONS.md",
         "docs/BENCHMARK.md",
         "docs/CHANGES.md",
+        "docs/DESIGN-PASS.md",
         "docs/PORT.md",
         "docs/SKETCHES.md",
         READING,

@@ -6,7 +6,7 @@ pub returns-then-is_prefix : goal.returns-then-is_prefix
 returns-then-is_prefix c = best_wins c.args.lengths.now
     c.args.priorities.now _ _ _ _ _
     c.args.best
-    c.args.i (search rules) _ _ c.wide-blocks.ensures.0
+    c.args.i (search rules) _ _ c.from-blocks.ensures
     c.is_prefix.ensures _ c.beats.ensures
     c.if-beats.true c.if-is_prefix.true
 
@@ -14,7 +14,7 @@ pub returns-then-beats : goal.returns-then-beats
 returns-then-beats c = best_unfit c.args.lengths.now
     c.args.priorities.now _ _ _ _ _
     c.args.best
-    c.args.i (search rules) _ _ c.wide-blocks.ensures.0
+    c.args.i (search rules) _ _ c.from-blocks.ensures
     c.is_prefix.ensures c.if-is_prefix.false
 
 pub returns : goal.returns

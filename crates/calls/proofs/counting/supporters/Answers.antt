@@ -1,8 +1,5 @@
-use Rattle.calls.proofs.SupportCases.{tally_empty, tally_longest}
+use Rattle.calls.proofs.SupportCases.{tally_read}
 use Rattle.calls.proofs.counting.supporters.Goals as goal
 
-pub returns-in_default : goal.returns-in_default
-returns-in_default c = search tally_empty
-
 pub returns : goal.returns
-returns c = search tally_longest
+returns c = (tally_read _ _ _ _ _ _ _ _ _ c.unwrap_or-longest.ensures c.requires c.supporters.ensures.0, c.supporters.ensures.1)

@@ -1,25 +1,17 @@
-use Rattle.calls.proofs.RefusalCases.{asks_limited, judged_so}
-use Rattle.calls.proofs.ActCases.{act_acting, act_refused, act_by_11, act_by_22, acts_by}
+use Rattle.calls.proofs.ActCases.{act_refused, act_by_11, act_by_22, acts_by, act_acting}
 use Rattle.calls.proofs.parts.act.Goals as goal
 
-pub record_refusal-refusal-requires : goal.record_refusal-refusal-requires
-record_refusal-refusal-requires c = search asks_limited
-
-pub returns-then-refusal-gt0 : goal.returns-then-refusal-gt0
-returns-then-refusal-gt0 c = search (act_refused, judged_so)
+pub returns-in-Err : goal.returns-in-Err
+returns-in-Err c = rw c.refused.ensures (search (act_refused, c.in-Err.is))
 
 pub returns-then-out-lt-MOST_BYTES : goal.returns-then-out-lt-MOST_BYTES
-returns-then-out-lt-MOST_BYTES c = search (act_by_11, judged_so)
+returns-then-out-lt-MOST_BYTES c = rw c.refused-then-out-lt-MOST_BYTES.ensures (search (act_by_11, c.in_default.is))
 
 pub returns-then-is_idle : goal.returns-then-is_idle
-returns-then-is_idle c = search (act_by_22, judged_so)
+returns-then-is_idle c = rw c.refused-then-is_idle.ensures (search (act_by_22, c.in_default.is))
 
-pub act_at-requires : goal.act_at-requires
-act_at-requires c =
-    act_acting _ _ _ _ _ _ _ _ _ _ (judged_so _ _ _ _ _ _ _ _ c.is_beyond-beyond.ensures _ c.record_refusal-refusal.ensures) c.if-refusal-gt0.false c.if-out-lt-MOST_BYTES.false
+pub act_at-made-requires : goal.act_at-made-requires
+act_at-made-requires c = search (act_acting, c.in_default.is)
 
 pub returns : goal.returns
-returns c =
-    acts_by _ _ _ _ _ _ _ _ _ _ (judged_so _ _ _ _ _ _ _ _ c.is_beyond-beyond.ensures _ c.record_refusal-refusal.ensures) _ _ c.if-refusal-gt0.false c.if-out-lt-MOST_BYTES.false
-    _ c.is_idle.ensures _ _ _ _ _ _
-    c.if-is_idle.false c.act_at.ensures
+returns c = search (acts_by, c.in_default.is)

@@ -1,18 +1,14 @@
-use Rattle.calls.proofs.RefusalCases.{asks_limited, judged_so}
-use native.Mathlib.Omega.{arith}
+use Rattle.std.proofs.lemmas.Result.{err_from_is_err_and}
 use Rattle.calls.proofs.FindCases.{find_refused, find_rising, finds}
 use Rattle.calls.proofs.parts.find.Goals as goal
 
-pub record_refusal-refusal-requires : goal.record_refusal-refusal-requires
-record_refusal-refusal-requires c = search asks_limited
-
-pub returns-then-refusal-gt0 : goal.returns-then-refusal-gt0
-returns-then-refusal-gt0 c = search (find_refused, judged_so)
+pub returns-in_err-judge : goal.returns-in_err-judge
+returns-in_err-judge c =
+    let p = err_from_is_err_and c.from_residual.result c.from_residual.ensures.1 in
+    rw (p.1, p.2) (search (find_refused, c.in_err-judge.was))
 
 pub find_in-requires : goal.find_in-requires
-find_in-requires c = find_rising _ _ _ _ _ _ _ _
-    (judged_so _ _ _ _ _ _ _ _ c.is_beyond-beyond.ensures _ c.record_refusal-refusal.ensures) c.if-refusal-gt0.false
-    (λ i. omega (arith, c.shared_slice_known-2-1.given i))
+find_in-requires c = find_rising _ _ _ _ _ _ c.judge.ensures _ c.in_ok-judge.was (λ i. (c.type_inv.counts i).fits)
 
 pub returns : goal.returns
-returns c = search (finds, judged_so)
+returns c = search (finds, c.in_ok-judge.was)

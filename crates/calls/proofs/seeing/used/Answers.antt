@@ -1,17 +1,14 @@
-use Rattle.calls.proofs.SeeingLaws.{used_late, used_first_lem, used_not_first, used_even, used_odd}
+use Rattle.calls.proofs.SeeingLaws.{used_none, used_first_lem, used_not_first, used_later}
 use Rattle.calls.proofs.seeing.used.Goals as goal
 
-pub returns-then-place-gt2 : goal.returns-then-place-gt2
-returns-then-place-gt2 c = search used_late
+pub returns-in_err-k : goal.returns-in_err-k
+returns-in_err-k c = rw c.from_residual.ensures (search (used_none, c.in_err-k.was))
 
-pub returns-then-place-lt2 : goal.returns-then-place-lt2
-returns-then-place-lt2 c = search used_first_lem
+pub returns-then-k-lt2 : goal.returns-then-k-lt2
+returns-then-k-lt2 c = search (used_first_lem, c.in_ok-k.was)
 
 pub returns-then-v-eq0 : goal.returns-then-v-eq0
-returns-then-v-eq0 c = search used_not_first
-
-pub returns-then-is_even : goal.returns-then-is_even
-returns-then-is_even c = search used_even
+returns-then-v-eq0 c = search (used_not_first, c.in_ok-k.was)
 
 pub returns : goal.returns
-returns c = search used_odd
+returns c = search (used_later, c.in_ok-k.was)

@@ -1,11 +1,7 @@
-use Prim.Native.Nat.{◌-◌}
 use Rattle.calls.proofs.TotalWalks.{Summing}
 use Rattle.bench.specs.Totals.{totals_from, unlike}
 use Rattle.calls.specs.TotalSteps.{decided_counts}
 use Rattle.calls.proofs.totals.are_unlike.Given as goal
 
 abbrev pub invariant-loop-i : goal.invariant-loop-i
-invariant-loop-i l = Summing (unlike (totals_from 0 (decided_counts l.counts l.decided)) l.totals) l.counts l.totals l.k l.sum l.i
-
-abbrev pub decreases-loop-i : goal.decreases-loop-i
-decreases-loop-i l = l.k - l.i
+invariant-loop-i l = Summing (unlike (totals_from 0 (decided_counts l.counts l.decided)) l.totals) l.counts l.totals l.decided l.sum l.i

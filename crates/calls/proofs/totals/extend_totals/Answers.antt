@@ -1,11 +1,10 @@
-use native.Mathlib.Omega.{arith}
 use Rattle.calls.proofs.TotalWalks.{writable, extended-by, extended_none}
 use Rattle.calls.proofs.totals.extend_totals.Goals as goal
 
 pub write_totals-requires : goal.write_totals-requires
 write_totals-requires c =
     writable _ _ _ _ c.requires c.if-old-new.true _
-    (λ i. omega (arith, c.shared_slice_known-1.given i)) c.total_of-before.ensures
+    (λ i. (c.type_inv.counts i).fits) c.total_of-before.ensures
 
 pub returns-then-old-new : goal.returns-then-old-new
 returns-then-old-new c =

@@ -1,4 +1,3 @@
-use Prim.Native.Nat.{◌-◌}
 use lib.ListN.{length}
 use Rattle.calls.proofs.TotalWalks.{Writing}
 use Rattle.message.specs.Numbers.{put}
@@ -8,6 +7,3 @@ use Rattle.calls.proofs.totals.write_totals.Given as goal
 abbrev pub invariant-loop-i : goal.invariant-loop-i
 invariant-loop-i l =
     Writing (put l.initial.totals 0 (totals_from l.before l.counts)) l.counts l.totals l.before l.sum l.i (length l.initial.totals)
-
-abbrev pub decreases-loop-i : goal.decreases-loop-i
-decreases-loop-i l = l.k - l.i

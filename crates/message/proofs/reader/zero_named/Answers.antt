@@ -1,13 +1,12 @@
-use Rattle.message.proofs.LoopLaws.{zero_next, zero_end}
+use Rattle.message.proofs.LoopLaws.{zero_next}
 use mathlib.Core.Path.{refl}
-use borrow.Author.Rules.{rules}
+use Rattle.message.specs.Numbers.{numbers_at}
+use Rattle.message.specs.Choice.{any_of}
 use Rattle.message.proofs.reader.zero_named.Goals as goal
 
-pub loop-k-init : goal.loop-k-init
-loop-k-init c = (search rules, refl)
+pub loop-i-init : goal.loop-i-init
+unfolding numbers_at any_of
+loop-i-init c = refl
 
-pub loop-k-preserved : goal.loop-k-preserved
-loop-k-preserved c = (search rules, search (zero_next 8))
-
-pub returns : goal.returns
-returns c = search (zero_end 8)
+pub loop-i-preserved : goal.loop-i-preserved
+loop-i-preserved c = zero_next 8 c.args.s.now 16 c.loop-i.i _ _ c.loop-i.invariant c.read_at.ensures

@@ -1,16 +1,15 @@
-use Rattle.message.proofs.StoreLaws.{walk_starts, walk_on, walk_off, walk_end}
+use Rattle.message.proofs.StoreLaws.{unlike_is, walk_on, walk_off, walk_end}
+use mathlib.Core.Bool.{not}
+use mathlib.Core.Path.{ap, ◌∙◌}
 use Rattle.message.proofs.store.shared_blocks.Goals as goal
 
-pub loop-i-init : goal.loop-i-init
-loop-i-init c = walk_starts _ _ _ _ _ c.requires
-
 pub loop-i-preserved : goal.loop-i-preserved
-loop-i-preserved c = walk_on c.loop-i.invariant c.loop-i-test.true
-    c.is_block.ensures c.if-is_block.true
+loop-i-preserved c = walk_on _ _ _ _ _ _ _ c.loop-i.invariant c.loop-i-test.true
+    (unlike_is _ _ _ _ _ _ _ c.ne.ensures c.block_at.ensures c.block_at-in-loop-i.ensures ∙ ap not c.if-ne.false)
 
-pub returns-else-is_block : goal.returns-else-is_block
-returns-else-is_block c = walk_off c.loop-i.invariant c.loop-i-test.true
-    c.is_block.ensures c.if-is_block.false
+pub returns-then-ne : goal.returns-then-ne
+returns-then-ne c = walk_off _ _ _ _ _ _ _ c.loop-i.invariant c.loop-i-test.true
+    (unlike_is _ _ _ _ _ _ _ c.ne.ensures c.block_at.ensures c.block_at-in-loop-i.ensures ∙ ap not c.if-ne.true)
 
 pub returns : goal.returns
-returns c = walk_end c.loop-i.invariant c.loop-i-test.false
+returns c = walk_end _ _ _ _ _ _ _ c.loop-i.invariant c.loop-i-test.false c.loop-i.auto.i-end

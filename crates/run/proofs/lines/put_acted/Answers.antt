@@ -1,21 +1,21 @@
-use Rattle.run.proofs.TextLaws.{puts_acted}
 use Rattle.run.specs.Texts.{digits}
 use Rattle.run.specs.RollSteps.{end_text, acted_text}
+use borrow.Author.Rules.{rules}
 use native.Mathlib.Omega.{arith}
 use Rattle.run.proofs.lines.put_acted.Goals as goal
 
-pub returns-in-Nothing : goal.returns-in-Nothing
+pub returns-in-Ok-Nothing : goal.returns-in-Ok-Nothing
 unfolding acted_text digits
-returns-in-Nothing c = record { puts = search puts_acted; upper_bound = omega arith }
+returns-in-Ok-Nothing c = record { puts = search rules; upper_bound = omega arith }
 
-pub returns-in-Log : goal.returns-in-Log
+pub returns-in-Ok-Log : goal.returns-in-Ok-Log
 unfolding acted_text
-returns-in-Log c = record { puts = search puts_acted; upper_bound = omega arith }
+returns-in-Ok-Log c = record { puts = search rules; upper_bound = omega arith }
 
-pub returns-in-Proposal : goal.returns-in-Proposal
+pub returns-in-Ok-Proposal : goal.returns-in-Ok-Proposal
 unfolding acted_text
-returns-in-Proposal c = record { puts = search puts_acted; upper_bound = omega arith }
+returns-in-Ok-Proposal c = record { puts = search rules; upper_bound = omega arith }
 
-pub returns-in-Refused : goal.returns-in-Refused
+pub returns-in-Err : goal.returns-in-Err
 unfolding acted_text end_text
-returns-in-Refused c = record { puts = search puts_acted; upper_bound = omega arith }
+returns-in-Err c = record { puts = search rules; upper_bound = omega arith }

@@ -3,4 +3,4 @@ use native.Mathlib.Omega.{arith}
 use Rattle.run.proofs.lines.put_refused.Goals as goal
 
 pub returns : goal.returns
-returns c = record { puts = search puts_after; upper_bound = omega arith }
+returns c = record { puts = rw (← c.from-number.ensures, ← c.from.ensures) (search puts_after); upper_bound = omega arith }

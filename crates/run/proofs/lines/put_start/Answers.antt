@@ -1,12 +1,12 @@
-use Rattle.run.proofs.TextLaws.{puts_by}
-use Rattle.run.specs.RollSteps.{end_text, start_text}
+use borrow.Author.Rules.{rules}
 use native.Mathlib.Omega.{arith}
+use Rattle.run.specs.RollSteps.{end_text, start_text}
 use Rattle.run.proofs.lines.put_start.Goals as goal
 
-pub returns-in-Done : goal.returns-in-Done
+pub returns-in-Ok : goal.returns-in-Ok
 unfolding start_text
-returns-in-Done c = record { puts = search (puts_by start_text); upper_bound = omega arith }
+returns-in-Ok c = record { puts = search rules; upper_bound = omega arith }
 
-pub returns-in-Refused : goal.returns-in-Refused
+pub returns-in-Err : goal.returns-in-Err
 unfolding start_text end_text
-returns-in-Refused c = record { puts = search (puts_by start_text); upper_bound = omega arith }
+returns-in-Err c = record { puts = search rules; upper_bound = omega arith }

@@ -1,12 +1,8 @@
 use Rattle.run.proofs.MadeLaws.{no_event, event_act_not}
-use Rattle.run.proofs.RollForm.{mark_fits}
 use Rattle.run.proofs.made.is_no_act.Goals as goal
 
-pub returns-then-events_of-event : goal.returns-then-events_of-event
-returns-then-events_of-event c = search no_event
-
-pub bounds-roll-event : goal.bounds-roll-event
-bounds-roll-event c = search mark_fits
+pub returns-then-events-event : goal.returns-then-events-event
+returns-then-events-event c = search no_event
 
 pub returns : goal.returns
-returns c = search event_act_not
+returns c = event_act_not _ _ _ c.events.ensures.0 _ _ c.if-events-event.false c.kind_at.ensures c.ne.ensures

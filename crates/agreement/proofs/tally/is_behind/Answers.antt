@@ -1,5 +1,0 @@
-use Rattle.agreement.proofs.TallyLaws.{backs_is}
-use Rattle.agreement.proofs.tally.is_behind.Goals as goal
-
-pub returns : goal.returns
-returns c = search backs_is

@@ -1,8 +1,0 @@
-use Rattle.agreement.proofs.CountLaws.{larger_first, larger_second}
-use Rattle.agreement.proofs.tally.larger.Goals as goal
-
-pub returns-then-a-b : goal.returns-then-a-b
-returns-then-a-b c = search larger_second
-
-pub returns : goal.returns
-returns c = search larger_first

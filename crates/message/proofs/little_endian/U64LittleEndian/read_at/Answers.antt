@@ -1,0 +1,21 @@
+use Rattle.message.proofs.NumberLaws.{number_next, number_none}
+use Prim.Native.Nat.{◌+◌}
+use native.Mathlib.Omega.{arith}
+use Rattle.message.proofs.little_endian.U64LittleEndian.read_at.Goals as goal
+
+pub returns : goal.returns
+returns c =
+    let s = c.args.s.now in
+    let a = c.args.at in
+    omega (
+      arith,
+      number_next 7 s a (a + 1) (omega arith),
+      number_next 6 s (a + 1) (a + 2) (omega arith),
+      number_next 5 s (a + 2) (a + 3) (omega arith),
+      number_next 4 s (a + 3) (a + 4) (omega arith),
+      number_next 3 s (a + 4) (a + 5) (omega arith),
+      number_next 2 s (a + 5) (a + 6) (omega arith),
+      number_next 1 s (a + 6) (a + 7) (omega arith),
+      number_next 0 s (a + 7) (a + 8) (omega arith),
+      number_none s (a + 8),
+    )
