@@ -48,7 +48,6 @@ fn given<A: Copy>(h: Head, r: Result<Given<A, Head>, Refusal>) -> Given<Result<A
     }
 }
 
-// Begin up to its refusal, which leaves the rows as they were; likewise Receive and Act below.
 // Begin: the gathering of a beat starts. Refused: 9, 8, 9 by the totals, 10, 20.
 pub fn begin(
     h: Head,

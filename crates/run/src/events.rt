@@ -13,8 +13,8 @@ use agreement::Given;
 use bench::{Bench, MOST_BYTES};
 
 // The first calls, one after the other: where the text ends, and the record after them. The lent lists and the totals stay three slices:
-// a struct that holds a `&mut` needs clauses of separation logic. Kept as a flag, whether their lines are written: with a type parameter in its place this function
-// stands twice, the call of an event goes into neither, and a refused call takes 62 instructions more, of 365.
+// a struct that holds a `&mut` needs clauses of separation logic. Whether lines are written stays a flag: with a type parameter in its
+// place this function stands twice, the call of an event goes into neither, and a refused call takes 62 instructions more, of 365.
 pub(crate) fn run_events(
     bench: Bench,
     names: &mut [u64],

@@ -62,8 +62,8 @@ impl<'a> Roll<'a> {
         }
     }
 
-    // Where the body of this event starts. Kept as a loop: in a sum over a closure each step
-    // would need its bounds of its own.
+    // Where the body of this event starts. Kept as a loop: in a sum over a closure each step would need bounds
+    // of its own.
     pub(crate) fn body_place(self, event: usize) -> usize
         requires { event ≤ events_of self.bytes.now }
         ensures { (result ≡ body_place self.entry.bytes.now event) × (result < 4294967296) }

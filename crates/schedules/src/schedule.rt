@@ -31,7 +31,8 @@ fn offer(c: Clause) -> Offer {
     }
 }
 
-// The record and the lent lists, in the form that the calls take. They are not cleared for a fresh bench: no call reads of them what its bench has not filed.
+// The record and the lent lists, in the form that the calls take. They are not cleared for a fresh bench: no call reads of them what its
+// bench has not filed.
 #[derive(Drop)]
 pub(crate) struct Replica {
     bench: Bench,

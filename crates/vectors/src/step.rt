@@ -7,8 +7,8 @@ use std::io;
 // The longest message; the writer's buffer has room for just that.
 const MOST_BYTES: usize = HEAD_LENGTH + BLOCK_WIDTH * MOST_BLOCKS;
 
-// What the calls work on, in the form that they take. Logs stand in the lists, `of` so many blocks `at` a place; messages to be read in the bytes, and those
-// written in `out`.
+// What the calls work on, in the form that they take. Logs stand in the lists, `of` so many blocks `at` a place; messages to be read in
+// the bytes, and those written in `out`.
 #[derive(Clone, Copy)]
 pub(crate) struct Memory {
     bytes: [u8; 666],
