@@ -178,8 +178,11 @@ module _ (h : Head) (rows : Rows) (names counts totals out : List ℕ) (r : Resu
   act_acting u y l =
       let s = served_by held r j u y in
       record {
-        tested = record { usable = served_usable h rows names counts totals s; room = le-ltb (length out) most_bytes l };
-        deciding = served_deciding h rows names counts totals s;
+        tested = record {
+          usable = served_usable h rows.even rows.odd rows.proposed rows.priorities names counts totals s;
+          room = le-ltb (length out) most_bytes l;
+        };
+        deciding = served_deciding h rows.even rows.odd rows.proposed rows.priorities names counts totals s;
       }
 
   module _ (block : Block) (priority : ℕ) where

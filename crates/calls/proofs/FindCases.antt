@@ -23,11 +23,10 @@ use Rattle.bench.specs.Layout.{decided_place, short_lists}
 use Rattle.bench.specs.Totals.{totals_from, sum_of, entries_in, block_holding, inside_block}
 use Rattle.bench.specs.Calls.{Reply, refused, found, State, core_of, found_in}
 use Rattle.bench.specs.Causes.{find_causes}
-use Rattle.bench.specs.Record.{bench_from, bench_with}
+use Rattle.bench.specs.Record.{bench_from}
 use Rattle.bench.specs.ByRecord.{wrong_totals, decided_log, record_causes, find_rows, find_of}
 use Rattle.bench.specs.Answers.{held_with, entry_reply, FindGives}
 use Rattle.bench.specs.declared.Head.{Head}
-use Rattle.bench.specs.declared.Rows.{Rows}
 use Rattle.bench.specs.declared.Entry.{Entry}
 use Rattle.bench.specs.Refusals.{refusal_number}
 use Rattle.bench.specs.declared.refusal.Refusal.{Refusal}
@@ -135,10 +134,10 @@ judged_find L x =
     (λ t. judged_refused refused (found_in L x) (find_causes L x) 23 (first_failure_lem (find_causes L x) 23 (inl (t, refl))) ∙ rw t)
     (λ t. judged_done refused (found_in L x) (find_causes L x) (no_failure (find_causes L x) (t, tt)) ∙ rw t)
 
-module _ (h : Head) (rows : Rows) (names counts totals : List ℕ) (r : Result (Unit {0}) Refusal)
-    (j : Judges (held_with (bench_with h rows) names counts totals) r) where
+module _ (h : Head) (e o p q names counts totals : List ℕ) (r : Result (Unit {0}) Refusal)
+    (j : Judges (held_with (bench_from h e o p q) names counts totals) r) where
   abbrev held : State
-  held = held_with (bench_with h rows) names counts totals
+  held = held_with (bench_from h e o p q) names counts totals
 
   -- nothing is written
   gives : (x : ℕ) (a : Result Entry Refusal) → entry_reply a ≡ (find_of held x).answer.reply → FindGives (find_of held x) a names counts totals
@@ -162,7 +161,7 @@ module _ (h : Head) (rows : Rows) (names counts totals : List ℕ) (r : Result (
 
   module _ (u : Unit {0}) (y : r ≡ Ok u) where
     pub find_rising : AllBelow (2 ^ 16) counts → Rising totals h.decided
-    find_rising below = rises h names counts totals (served_deciding h rows names counts totals (served_by held r j u y)) below
+    find_rising below = rises h names counts totals (served_deciding h e o p q names counts totals (served_by held r j u y)) below
 
     pub finds : (x : ℕ) (a : Result Entry Refusal) → a ≡ entry_among 0 0 (part totals 0 h.decided) x
         → FindGives (find_of held x) a names counts totals
@@ -171,7 +170,7 @@ module _ (h : Head) (rows : Rows) (names counts totals : List ℕ) (r : Result (
         let L = decided_log (core_of held) in
         gives x a
         (ap entry_reply f
-        ∙ walk_reply h names counts totals (served_deciding h rows names counts totals s) x
+        ∙ walk_reply h names counts totals (served_deciding h e o p q names counts totals s) x
         ∙ sym (find_reply held x
         ∙ served_past refused (found_in L x) held (find_causes L x) s
         ∙ judged_find L x

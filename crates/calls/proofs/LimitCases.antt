@@ -16,9 +16,8 @@ use Rattle.agreement.specs.declared.Shown.{Shown}
 use Rattle.agreement.proofs.MaskLaws.{member_or}
 use Rattle.bench.specs.Layout.{out_of_range}
 use Rattle.bench.specs.Calendar.{last_beat}
-use Rattle.bench.specs.Record.{bench_with, any_place, names_beyond, too_long, bad_sender, beyond_agreement, beyond_proposals, beyond}
+use Rattle.bench.specs.Record.{bench_from, any_place, names_beyond, too_long, bad_sender, beyond_agreement, beyond_proposals, beyond}
 use Rattle.bench.specs.declared.Head.{Head}
-use Rattle.bench.specs.declared.Rows.{Rows}
 use Rattle.bench.proofs.LimitLaws.{any_place_lem, any_or, any_cong, agreement_causes, proposals_causes, beyond-causes}
 use Rattle.calls.specs.Steps.{outside, bad_sets}
 
@@ -145,26 +144,26 @@ lengths_first false false true false false false false true g = refl
 lengths_first false false true false false false false false g = refl
 lengths_first false false false a b c d f g = refl
 
-pub beyond_limits : (h : Head) (rows : Rows) (range long even odd proposals : Bool) → range ≡ out_of_range h.n h.own
-    → long ≡ (ltb 0 (count most_senders (λ (i : ℕ). ltb most_blocks (get_or rows.even i 0)))
-    || (ltb 0 (count most_senders (λ (i : ℕ). ltb most_blocks (get_or rows.odd i 0))) || ltb 0
-    (count most_senders (λ (i : ℕ). ltb most_blocks (get_or rows.proposed i 0)))))
+pub beyond_limits : (h : Head) (e o p q : List ℕ) (range long even odd proposals : Bool) → range ≡ out_of_range h.n h.own
+    → long ≡ (ltb 0 (count most_senders (λ (i : ℕ). ltb most_blocks (get_or e i 0)))
+    || (ltb 0 (count most_senders (λ (i : ℕ). ltb most_blocks (get_or o i 0))) || ltb 0
+    (count most_senders (λ (i : ℕ). ltb most_blocks (get_or p i 0)))))
     → even ≡ (ltb last_view h.even.view || bad_sets h.n h.even) → odd ≡ (ltb last_view h.odd.view || bad_sets h.n h.odd)
     → proposals ≡ (ltb last_view h.shown.view ||
     (any_place (names_beyond h.n h.shown.filed) || any_place (names_beyond h.n h.shown.aside)))
     → (range || (ltb (last_beat + 1) h.next || (ltb most_blocks h.decided || (long || (even || (odd || proposals)))))) ≡ beyond
-    (bench_with h rows)
-beyond_limits h rows range long even odd proposals a l b c d =
+    (bench_from h e o p q)
+beyond_limits h e o p q range long even odd proposals a l b c d =
     let all : (long || (even || (odd || proposals)))
-    ≡ (beyond_agreement h.n (agreement_from h.even rows.even) ||
-    (beyond_agreement h.n (agreement_from h.odd rows.odd) || beyond_proposals h.n (proposals_from h.shown rows.proposed rows.priorities))) =
+    ≡ (beyond_agreement h.n (agreement_from h.even e) ||
+    (beyond_agreement h.n (agreement_from h.odd o) || beyond_proposals h.n (proposals_from h.shown p q))) =
     (λ i.
-    (l ∙ (λ j. sym (any_place_lem (too_long rows.even)) j || (sym (any_place_lem (too_long rows.odd)) j || sym (any_place_lem (too_long rows.proposed)) j))) i ||
+    (l ∙ (λ j. sym (any_place_lem (too_long e)) j || (sym (any_place_lem (too_long o)) j || sym (any_place_lem (too_long p)) j))) i ||
     (b i || (c i || d i)))
-    ∙ lengths_first (any_place (too_long rows.even)) (any_place (too_long rows.odd)) (any_place (too_long rows.proposed)) (ltb last_view h.even.view)
+    ∙ lengths_first (any_place (too_long e)) (any_place (too_long o)) (any_place (too_long p)) (ltb last_view h.even.view)
     (bad_sets h.n h.even)
     (ltb last_view h.odd.view) (bad_sets h.n h.odd) (ltb last_view h.shown.view)
     (any_place (names_beyond h.n h.shown.filed) || any_place (names_beyond h.n h.shown.aside))
-    ∙ sym (λ i. beyond_agreement_lem h.n h.even rows.even i || (beyond_agreement_lem h.n h.odd rows.odd i || beyond_proposals_lem h.n h.shown rows.proposed rows.priorities i))
+    ∙ sym (λ i. beyond_agreement_lem h.n h.even e i || (beyond_agreement_lem h.n h.odd o i || beyond_proposals_lem h.n h.shown p q i))
     in
-    (λ i. a i || (ltb (last_beat + 1) h.next || (ltb most_blocks h.decided || all i))) ∙ sym (beyond-causes (bench_with h rows))
+    (λ i. a i || (ltb (last_beat + 1) h.next || (ltb most_blocks h.decided || all i))) ∙ sym (beyond-causes (bench_from h e o p q))

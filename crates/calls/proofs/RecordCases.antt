@@ -13,21 +13,20 @@ use Rattle.agreement.specs.declared.Marks.{Marks}
 use Rattle.agreement.specs.declared.Shown.{Shown}
 use Rattle.bench.specs.Layout.{is_even, logs_place}
 use Rattle.bench.specs.Calendar.{logs_shut, proposals_shut}
-use Rattle.bench.specs.Record.{bench_with, of_view, agreement_of}
+use Rattle.bench.specs.Record.{bench_from, of_view, agreement_of}
 use Rattle.bench.specs.ByRecord.{kept_agreement, kept_proposals}
 use Rattle.bench.specs.declared.Head.{Head}
-use Rattle.bench.specs.declared.Rows.{Rows}
 use Rattle.bench.proofs.Slots.{agreement_even, agreement_odd, agreement_forgotten, agreement_kept, proposals_forgotten, proposals_kept}
 
 -- ---- by the parity of a view
 
 -- the agreement in its slot
-pub slot_is : (h : Head) (rows : Rows) (v : ℕ) (m : Marks) (lengths : List ℕ) → m ≡ pick (is_even v) h.even h.odd
-    → lengths ≡ pick (is_even v) rows.even rows.odd → of_view (agreement_from m lengths) v ≡ agreement_of (bench_with h rows) v
-slot_is h rows v m lengths e f =
+pub slot_is : (h : Head) (e o p q : List ℕ) (v : ℕ) (m : Marks) (lengths : List ℕ) → m ≡ pick (is_even v) h.even h.odd
+    → lengths ≡ pick (is_even v) e o → of_view (agreement_from m lengths) v ≡ agreement_of (bench_from h e o p q) v
+slot_is h e o p q v m lengths x y =
     either (is_even v)
-    (λ t. rw (e, f, t) (sym (agreement_even (bench_with h rows) v t)))
-    (λ t. rw (e, f, t) (sym (agreement_odd (bench_with h rows) v t)))
+    (λ t. rw (x, y, t) (sym (agreement_even (bench_from h e o p q) v t)))
+    (λ t. rw (x, y, t) (sym (agreement_odd (bench_from h e o p q) v t)))
 
 module _ (r : Bool) (v : ℕ) (e : r ≡ is_even v) where
   pub place_even : r ≡ true → 0 ≡ logs_place v

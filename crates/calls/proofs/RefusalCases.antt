@@ -2,18 +2,18 @@
 -- nothing.
 use Prim.Native.Nat.{ℕ}
 use mathlib.Core.Bool.{Bool, true, false}
-use mathlib.Core.List.{List, ◌++◌}
+use mathlib.Core.List.{List, [], ◌∷◌, ◌++◌}
 use mathlib.Core.Logic.{inl, inr}
 use mathlib.Core.Option.{some}
 use mathlib.Core.Path.{◌≡◌, refl, sym, ap, subst, ◌∙◌}
 use Rattle.std.specs.Prelude.{Result, Ok, Err}
-use Rattle.message.specs.Causes.{Cause, first_failure, refused_or}
+use Rattle.message.specs.Causes.{Cause, by, first_failure, refused_or}
 use Rattle.message.proofs.CauseLaws.{first_failure_lem, failure_append}
 use Rattle.message.proofs.ListedLaws.{counts_at}
 use Rattle.bench.specs.Layout.{short_lists, decided_place}
 use Rattle.bench.specs.Totals.{totals_from, unlike}
 use Rattle.bench.specs.Calls.{State, core_of}
-use Rattle.bench.specs.Record.{bench_with, beyond}
+use Rattle.bench.specs.Record.{bench_from, beyond}
 use Rattle.bench.specs.ByRecord.{wrong_totals, record_causes}
 use Rattle.bench.specs.Answers.{lent_as, held_with}
 use Rattle.bench.specs.Tested.{Served, Usable}
@@ -21,7 +21,7 @@ use Rattle.bench.specs.Refusals.{refusal_number}
 use Rattle.bench.specs.declared.refusal.Refusal.{Refusal}
 use Rattle.bench.specs.declared.refusal.Refusal.TheVariants as refusals
 use Rattle.bench.specs.declared.Head.{Head}
-use Rattle.bench.specs.declared.Rows.{Rows}
+use Rattle.bench.proofs.LimitLaws.{beyond_priorities}
 use Rattle.bench.proofs.TestedLaws.{within_limits, lists_roomy, long_blocks, long_totals}
 use Rattle.calls.specs.TotalSteps.{decided_counts, Walkable}
 use Rattle.calls.specs.Steps.{Judged, Judges, Deciding}
@@ -30,16 +30,16 @@ use Rattle.calls.specs.Steps.{Judged, Judges, Deciding}
 pub in_front : (xs ys : List Cause) (k : ℕ) → first_failure xs ≡ some k → first_failure (xs ++ ys) ≡ some k
 in_front xs ys k e = failure_append xs ys ∙ ap (refused_or some (first_failure ys)) e
 
-module _ (h : Head) (rows : Rows) (names counts totals : List ℕ) where
+module _ (h : Head) (e o p q names counts totals : List ℕ) where
   abbrev held : State
-  held = held_with (bench_with h rows) names counts totals
+  held = held_with (bench_from h e o p q) names counts totals
 
   -- the code walks along the counts alone
   wrong_is : wrong_totals held ≡ unlike (totals_from 0 (decided_counts counts h.decided)) totals
   wrong_is = ap (λ (ks : List ℕ). unlike (totals_from 0 ks) totals) (counts_at names counts decided_place h.decided)
 
   -- as the code tests them
-  module _ (r : Bool) (x : r ≡ beyond (bench_with h rows)) where
+  module _ (r : Bool) (x : r ≡ beyond (bench_from h e o p q)) where
     pub by_9 : r ≡ true → Judges held (Err refusals.Record)
     by_9 t = record { judged = first_failure_lem (record_causes held) 9 (inl (sym x ∙ t, refl)) }
 
@@ -50,7 +50,7 @@ module _ (h : Head) (rows : Rows) (names counts totals : List ℕ) where
       module _ (u : z ≡ false) where
         pub asks_walkable : Walkable counts totals h.decided
         asks_walkable = record {
-          short = (within_limits (bench_with h rows) (sym x ∙ t)).0;
+          short = (within_limits (bench_from h e o p q) (sym x ∙ t)).0;
           count_room = (lists_roomy names counts (long_blocks (lent_as names counts totals) (sym f ∙ u))).1;
           total_room = long_totals (lent_as names counts totals) (sym f ∙ u);
         }
@@ -73,7 +73,7 @@ module _ (h : Head) (rows : Rows) (names counts totals : List ℕ) where
     served_deciding = record {
       decidable = record {
         lists = long_blocks (lent_as names counts totals) s.lists;
-        short = (within_limits (bench_with h rows) s.limits).0;
+        short = (within_limits (bench_from h e o p q) s.limits).0;
       };
       room = long_totals (lent_as names counts totals) s.lists;
       right = sym wrong_is ∙ s.totals;
@@ -87,3 +87,19 @@ module _ (s : State) (r : Result (Unit {0}) Refusal) (j : Judges s r) where
 
   pub served_by : (u : Unit {0}) → r ≡ Ok u → Served s
   served_by u e = subst (Judged s) e j.judged
+
+-- ---- priorities do not matter to it
+
+pub judged_whole : (h : Head) (e o p q names counts totals : List ℕ) (r : Result (Unit {0}) Refusal)
+    → Judges (held_with (bench_from h e o p []) names counts totals) r → Judges (held_with (bench_from h e o p q) names counts totals) r
+judged_whole h e o p q names counts totals (Ok u) j =
+    let w = served_by (held_with (bench_from h e o p []) names counts totals) (Ok u) j u refl in
+    record {
+      judged = record { limits = sym (beyond_priorities (bench_from h e o p []) q) ∙ w.limits; lists = w.lists; totals = w.totals };
+    }
+judged_whole h e o p q names counts totals (Err why) j =
+    let s = held_with (bench_from h e o p []) names counts totals in
+    record {
+      judged = sym (ap (λ (b : Bool). first_failure (by 9 b ∷ (by 8 (short_lists s.lent) ∷ (by 9 (wrong_totals s) ∷ []))))
+          (beyond_priorities (bench_from h e o p []) q)) ∙ j.judged;
+    }

@@ -32,11 +32,11 @@ use Rattle.bench.specs.Layout.{is_even, logs_place, proposals_place}
 use Rattle.bench.specs.Calendar.{Act, proposing, voting, deciding, snapping, grade_read}
 use Rattle.bench.specs.Acts.{used_first}
 use Rattle.bench.specs.Calls.{Core}
-use Rattle.bench.specs.Record.{bench_with, of_view, proposed_in, proposals_of}
+use Rattle.bench.specs.Record.{bench_from, bench_with, of_view, proposed_in, proposals_of}
 use Rattle.bench.specs.ByRecord.{used_of, seen_of}
 use Rattle.bench.specs.Answers.{core_with}
 use Rattle.bench.specs.Tested.{Usable}
-use Rattle.bench.proofs.ActLaws.{used_of_first, used_of_later, used_of_snapping}
+use Rattle.bench.proofs.ActLaws.{used_of_first, used_of_later, used_of_snapping, same_used}
 use Rattle.bench.proofs.Slots.{proposals_slot}
 use Rattle.bench.proofs.TestedLaws.{within_limits, lists_roomy, before_within}
 use Rattle.bench.proofs.Buffer.{proposed_short}
@@ -84,20 +84,20 @@ reads_none c v voting e = absurd (none-ne-some 1 e)
 reads_none c v deciding e = absurd (none-ne-some 2 e)
 reads_none c v snapping e = used_of_snapping c v
 
-module _ (h : Head) (rows : Rows) (names counts : List ℕ) (v : ℕ) (act : calendar.Act) (read : std.Option ℕ)
-    (e : option_of read ≡ grade_read (row_of act)) where
+module _ (h : Head) (e o p q names counts : List ℕ) (v : ℕ) (act : calendar.Act) (read : std.Option ℕ)
+    (asked : option_of read ≡ grade_read (row_of act)) where
   abbrev c : Core
-  c = core_with (bench_with h rows) names counts
+  c = core_with (bench_from h e o p q) names counts
 
   abbrev Used : std.Option Longest → Type 0
   Used r = Gives (used_of c v (row_of act)) names counts (logs_place (v - 1)) r
 
   pub used_none : read ≡ None → Used None
-  used_none t = record { log = sym (reads_none c v (row_of act) (sym (ap option_of t) ∙ e)); placed = tt }
+  used_none t = record { log = sym (reads_none c v (row_of act) (sym (ap option_of t) ∙ asked)); placed = tt }
 
   module _ (k : ℕ) (t : read ≡ Some k) where
     grade_is : some k ≡ grade_read (row_of act)
-    grade_is = sym (ap option_of t) ∙ e
+    grade_is = sym (ap option_of t) ∙ asked
 
     pub used_first_lem : v ≡ 0 → k < 2 → Used (Some (record { sender = 0; blocks = 0 }))
     used_first_lem z l = rw (z, used_of_first, first_used (row_of act) k grade_is l) (empty_given names counts (logs_place 0))
@@ -106,15 +106,21 @@ module _ (h : Head) (rows : Rows) (names counts : List ℕ) (v : ℕ) (act : cal
     used_not_first z l = rw (z, used_of_first, first_unused (row_of act) k grade_is l) (record { log = refl; placed = tt })
 
     pub used_later : (v ≡ 0 → ⊥) → (m : Marks) (lengths : List ℕ) (base : ℕ) (r : std.Option Longest)
-        → m ≡ pick (is_even (v - 1)) h.even h.odd → lengths ≡ pick (is_even (v - 1)) rows.even rows.odd → base ≡ logs_place (v - 1)
+        → m ≡ pick (is_even (v - 1)) h.even h.odd → lengths ≡ pick (is_even (v - 1)) e o → base ≡ logs_place (v - 1)
         → Gives (grade_of names counts base (of_view (agreement_from m lengths) (v - 1)) k) names counts base r → Used r
     used_later later m lengths base r x y at w = record {
       log = ap (λ (n : ℕ). log_of names counts n r) (sym at)
           ∙ w.log
-          ∙ (λ i. grade_of names counts (at i) (slot_is h rows (v - 1) m lengths x y i) k)
+          ∙ (λ i. grade_of names counts (at i) (slot_is h e o p q (v - 1) m lengths x y i) k)
           ∙ rw (used_of_later c v (row_of act) later, ← grade_is);
       placed = w.placed;
     }
+
+-- the proposals do not matter to it
+pub used_whole : (h : Head) (e o p q p' q' names counts : List ℕ) (v : ℕ) (a : Act)
+    → used_of (core_with (bench_from h e o p q) names counts) v a ≡ used_of (core_with (bench_from h e o p' q') names counts) v a
+used_whole h e o p q p' q' names counts v a =
+    same_used (core_with (bench_from h e o p' q') names counts) (core_with (bench_from h e o p q) names counts) v a refl refl refl refl
 
 -- ---- the proposals of the view
 

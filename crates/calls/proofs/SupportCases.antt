@@ -21,19 +21,19 @@ use Rattle.agreement.specs.declared.Longest.{Longest}
 use Rattle.agreement.proofs.TallyLaws.{supporters_placed}
 use Rattle.agreement.proofs.EmptyLaws.{empty_senders, empty_supporters}
 use Rattle.bench.specs.Layout.{is_even, logs_place}
-use Rattle.bench.specs.Calendar.{grade_read}
+use Rattle.bench.specs.Calendar.{Act, grade_read}
 use Rattle.bench.specs.Calls.{Core}
-use Rattle.bench.specs.Record.{Bench, bench_with, of_view}
+use Rattle.bench.specs.Record.{Bench, bench_from, of_view}
 use Rattle.bench.specs.ByRecord.{used_of}
 use Rattle.bench.specs.Answers.{core_with}
 use Rattle.bench.specs.Support.{agreement_before, read_of_grade, among_of_grade, or_empty, senders_read, supporters_read, SupportGives}
 use Rattle.bench.specs.declared.Head.{Head}
-use Rattle.bench.specs.declared.Rows.{Rows}
 use Rattle.bench.specs.declared.Counted.{Counted}
-use Rattle.bench.proofs.ActLaws.{before_first, before_later}
+use Rattle.bench.proofs.ActLaws.{before_first, before_later, same_before}
 use Rattle.calls.specs.Steps.{row_of, option_of, CountsIn}
 use Rattle.calls.specs.declared.calendar.Act as calendar
 use Rattle.calls.proofs.RecordCases.{slot_is}
+use Rattle.calls.proofs.SeeingLaws.{used_whole}
 
 -- ---- how many support the log of a grade
 
@@ -87,10 +87,10 @@ none_heard : (names counts : List ℕ) (base : ℕ) (L : Log) (o : Option ℕ)
 none_heard names counts base L none = (empty_senders 0, empty_supporters names counts base 0 _ L)
 none_heard names counts base L (some k) = (empty_senders 0, empty_supporters names counts base 0 _ L)
 
-module _ (h : Head) (rows : Rows) (names counts : List ℕ) (v : ℕ) (act : calendar.Act) (read : std.Option ℕ)
-    (e : option_of read ≡ grade_read (row_of act)) (r : std.Option Longest) where
+module _ (h : Head) (e o p q names counts : List ℕ) (v : ℕ) (act : calendar.Act) (read : std.Option ℕ)
+    (asked : option_of read ≡ grade_read (row_of act)) (r : std.Option Longest) where
   abbrev b : Bench
-  b = bench_with h rows
+  b = bench_from h e o p q
 
   abbrev s : Core
   s = core_with b names counts
@@ -106,7 +106,7 @@ module _ (h : Head) (rows : Rows) (names counts : List ℕ) (v : ℕ) (act : cal
     -- snapshot two reads none
     pub read_late : read ≡ None → Reads (record { grade = r; supporters = 0; senders = 0 })
     read_late t =
-        let x : grade_read (row_of act) ≡ none = sym e ∙ ap option_of t in
+        let x : grade_read (row_of act) ≡ none = sym asked ∙ ap option_of t in
         nobody (
           ap (heard (agreement_before b v)) x ∙ empty_senders 0,
           ap (behind names counts (logs_place (v - 1)) (agreement_before b v) (or_empty (used_of s v (row_of act)))) x
@@ -122,20 +122,43 @@ module _ (h : Head) (rows : Rows) (names counts : List ℕ) (v : ℕ) (act : cal
         (none_heard names counts (logs_place (v - 1)) (or_empty (used_of s v (row_of act))) (grade_read (row_of act))))
 
     pub read_later : (k : ℕ) → read ≡ Some k → (v ≡ 0 → ⊥) → (m : Marks) (lengths : List ℕ) (base : ℕ) (c : Counted)
-        → m ≡ pick (is_even (v - 1)) h.even h.odd → lengths ≡ pick (is_even (v - 1)) rows.even rows.odd → base ≡ logs_place (v - 1)
+        → m ≡ pick (is_even (v - 1)) h.even h.odd → lengths ≡ pick (is_even (v - 1)) e o → base ≡ logs_place (v - 1)
         → CountsIn names counts base (of_view (agreement_from m lengths) (v - 1)) k r c → Reads c
-    read_later k t later m lengths base c p q at w =
+    read_later k t later m lengths base c x y at w =
         let g : Agreement = of_view (agreement_from m lengths) (v - 1) in
-        let before : g ≡ agreement_before b v = slot_is h rows (v - 1) m lengths p q ∙ sym (before_later b v later) in
-        let asked : some k ≡ grade_read (row_of act) = sym (ap option_of t) ∙ e in
+        let before : g ≡ agreement_before b v = slot_is h e o p q (v - 1) m lengths x y ∙ sym (before_later b v later) in
+        let grade_is : some k ≡ grade_read (row_of act) = sym (ap option_of t) ∙ asked in
         record {
           grade = subst (Gives (used_of s v (row_of act)) names counts (logs_place (v - 1))) (sym w.same) u;
           supporters = w.supporters
               ∙ ap (λ (a : ℕ). supporters_of names counts a g (snapshot_for k g.marks).senders (or_empty (log_of names counts a r))) at
               ∙ ap (λ (L : Option Log). supporters_of names counts (logs_place (v - 1)) g (snapshot_for k g.marks).senders (or_empty L)) u.log
               ∙ ap (λ (a : Agreement). behind names counts (logs_place (v - 1)) a (or_empty (used_of s v (row_of act))) (some k)) before
-              ∙ ap (behind names counts (logs_place (v - 1)) (agreement_before b v) (or_empty (used_of s v (row_of act)))) asked;
+              ∙ ap (behind names counts (logs_place (v - 1)) (agreement_before b v) (or_empty (used_of s v (row_of act)))) grade_is;
           few_supporters = w.few_supporters;
-          senders = w.senders ∙ ap (λ (a : Agreement). heard a (some k)) before ∙ ap (heard (agreement_before b v)) asked;
+          senders = w.senders ∙ ap (λ (a : Agreement). heard a (some k)) before ∙ ap (heard (agreement_before b v)) grade_is;
           few_senders = w.few_senders;
         }
+
+-- ---- the proposals do not matter to it
+
+module _ (h : Head) (e o p q p' q' names counts : List ℕ) (v : ℕ) (a : Act) (c : Counted) where
+  abbrev one : Core
+  one = core_with (bench_from h e o p q) names counts
+
+  abbrev other : Core
+  other = core_with (bench_from h e o p' q') names counts
+
+  pub read_whole : SupportGives one v a c → SupportGives other v a c
+  read_whole w =
+      let x : used_of one v a ≡ used_of other v a = used_whole h e o p q p' q' names counts v a in
+      let y : agreement_before one.bench v ≡ agreement_before other.bench v = same_before other.bench one.bench v refl refl in
+      record {
+        grade = record { log = w.grade.log ∙ x; placed = w.grade.placed };
+        supporters = w.supporters
+            ∙ ap (λ (L : Option Log). behind names counts (logs_place (v - 1)) (agreement_before one.bench v) (or_empty L) (grade_read a)) x
+            ∙ ap (λ (g : Agreement). behind names counts (logs_place (v - 1)) g (or_empty (used_of other v a)) (grade_read a)) y;
+        few_supporters = w.few_supporters;
+        senders = w.senders ∙ ap (λ (g : Agreement). heard g (grade_read a)) y;
+        few_senders = w.few_senders;
+      }

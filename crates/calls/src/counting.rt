@@ -1,10 +1,10 @@
 // What an act reads of the agreement before (specs/Support.antt of crate bench), with its counts.
-ghost use Rattle.std.specs.Prelude.{◌≡◌, ◌≤◌};
+ghost use Rattle.std.specs.Prelude.{◌≡◌, ◌≤◌, []};
 ghost use Rattle.agreement.specs.Limits.{most_senders};
 ghost use Rattle.agreement.specs.Record.{agreement_from};
 ghost use Rattle.agreement.specs.Grades.{Placed, log_of};
 ghost use Rattle.agreement.specs.Tally.{supporters_of};
-ghost use Rattle.bench.specs.Record.{bench_with, of_view};
+ghost use Rattle.bench.specs.Record.{bench_from, of_view};
 ghost use Rattle.bench.specs.Answers.{core_with};
 ghost use Rattle.bench.specs.Support.{or_empty, SupportGives};
 ghost use Rattle.calls.specs.Steps.{row_of, CountsIn};
@@ -14,7 +14,7 @@ use super::record::{lengths_of, logs_place, marks_of};
 use super::seeing::{EMPTY, used};
 use agreement::grading::serving;
 use agreement::{Longest, Marks, tally};
-use bench::{Counted, Head, Rows};
+use bench::{Counted, Head};
 
 // How many support the log of a grade, or the empty log where there is none.
 fn supporters(
@@ -73,18 +73,19 @@ fn counted(
     }
 }
 
-// What the act of a row reads in view v.
+// What the act of a row reads in view v. Proposals do not matter to it.
 pub(crate) fn read_at(
     h: Head,
-    rows: &Rows,
+    even: &[u8; 32],
+    odd: &[u8; 32],
     names: &[u64],
     counts: &[u16],
     v: u32,
     act: Act,
 ) -> Counted
-    ensures { SupportGives (core_with (bench_with h rows.now) names.now counts.now) v (row_of act) result }
+    ensures { SupportGives (core_with (bench_from h even.now odd.now [] []) names.now counts.now) v (row_of act) result }
 {
-    let grade = used(h, rows, names, counts, v, act);
+    let grade = used(h, even, odd, names, counts, v, act);
     let nobody = Counted {
         grade,
         supporters: 0,
@@ -99,7 +100,7 @@ pub(crate) fn read_at(
     let before = v - 1;
     counted(
         marks_of(h, before),
-        lengths_of(rows, before),
+        lengths_of(even, odd, before),
         names,
         counts,
         logs_place(before),

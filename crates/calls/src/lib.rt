@@ -124,7 +124,8 @@ pub fn act(
     whole(rows, given)
 }
 
-// Find: where the entry of a number stands in the decided log. Nothing changes. Refused: 9, 8, 9 by the totals, 23.
+// Find: where the entry of a number stands in the decided log. Nothing changes. Refused: 9, 8, 9 by the totals, 23. Here and in
+// `support` the arrays that matter are copied one by one: a reference into the record had the compiler copy all of its rows.
 pub fn find(
     bench: Bench,
     names: &[u64],
@@ -135,7 +136,12 @@ pub fn find(
     ensures { FindGives (find_of (state_of bench names.now counts.now totals.now) entry) result
         names.now counts.now totals.now }
 {
-    parts::find(bench.head, &bench.rows, names, counts, totals, entry)
+    let even = bench.rows.even;
+    let odd = bench.rows.odd;
+    let proposed = bench.rows.proposed;
+    parts::find(
+        bench.head, &even, &odd, &proposed, names, counts, totals, entry,
+    )
 }
 
 // What the act of the record's beat reads of the agreement before. It is no call: nothing is refused, and nothing changes.
@@ -143,5 +149,7 @@ pub fn support(bench: Bench, names: &[u64], counts: &[u16]) -> Counted
     ensures { SupportGives (core_with (bench_of bench) names.now counts.now) (view_of (beat_of (bench_of bench)))
         (act_at (place_in (beat_of (bench_of bench)))) result }
 {
-    parts::support(bench.head, &bench.rows, names, counts)
+    let even = bench.rows.even;
+    let odd = bench.rows.odd;
+    parts::support(bench.head, &even, &odd, names, counts)
 }

@@ -1,9 +1,9 @@
 // Refusals 7, 8 and 9, the last by the totals too. What a record within its limits is stands in crate bench (specs/Record.antt); all
 // 32 places of each array are looked at.
-ghost use Rattle.std.specs.Prelude.{◌≡◌, ◌||◌, ltb};
+ghost use Rattle.std.specs.Prelude.{◌≡◌, ◌||◌, ltb, []};
 ghost use Rattle.message.specs.Limits.{last_view};
 ghost use Rattle.bench.specs.Layout.{out_of_range, short_lists};
-ghost use Rattle.bench.specs.Record.{bench_with, any_place, names_beyond, beyond};
+ghost use Rattle.bench.specs.Record.{bench_from, bench_with, any_place, names_beyond, beyond};
 ghost use Rattle.bench.specs.Answers.{lent_as, held_with};
 ghost use Rattle.calls.specs.Steps.{bad_sets, Judges};
 
@@ -52,20 +52,45 @@ fn is_beyond_proposals(g: Shown, n: u8) -> bool
 }
 
 // The record is beyond its limits. Priorities have none.
-pub(crate) fn is_beyond(h: Head, rows: &Rows) -> bool
-    ensures { result ≡ beyond (bench_with h rows.now) }
+fn is_beyond(h: Head, even: &[u8; 32], odd: &[u8; 32], proposed: &[u8; 32]) -> bool
+    ensures { result ≡ beyond (bench_from h even.now odd.now proposed.now []) }
 {
     let n = h.n;
     is_out_of_range(n, h.own)
         | ((LAST_BEAT + 1 < h.next)
             | ((MOST_BLOCKS < h.decided as usize)
-                | (are_over(&rows.even, &rows.odd, &rows.proposed, MOST_BLOCKS)
+                | (are_over(even, odd, proposed, MOST_BLOCKS)
                     | (is_beyond_agreement(h.even, n)
                         | (is_beyond_agreement(h.odd, n) | is_beyond_proposals(h.shown, n))))))
 }
 
-// What every call on a record is refused by: 9, 8, 9 by the totals, the first of them that is so. It is put into each call, so that
-// the head is not copied for it.
+// What every call on a record is refused by: 9, 8, 9 by the totals, the first of them that is so. Priorities do not matter to it. It is
+// put into each call, so that the head is not copied for it.
+#[inline(always)]
+pub(crate) fn judge_by(
+    h: Head,
+    even: &[u8; 32],
+    odd: &[u8; 32],
+    proposed: &[u8; 32],
+    names: &[u64],
+    counts: &[u16],
+    totals: &[u32],
+) -> Result<(), Refusal>
+    ensures { Judges (held_with (bench_from h even.now odd.now proposed.now []) names.now counts.now totals.now) result }
+{
+    if is_beyond(h, even, odd, proposed) {
+        return Err(Refusal::Record);
+    }
+    if is_short(names, counts, totals) {
+        return Err(Refusal::Lists);
+    }
+    if are_unlike(counts, totals, h.decided) {
+        return Err(Refusal::Record);
+    }
+    Ok(())
+}
+
+// The same by the rows.
 #[inline(always)]
 pub(crate) fn judge(
     h: Head,
@@ -76,14 +101,13 @@ pub(crate) fn judge(
 ) -> Result<(), Refusal>
     ensures { Judges (held_with (bench_with h rows.now) names.now counts.now totals.now) result }
 {
-    if is_beyond(h, rows) {
-        return Err(Refusal::Record);
-    }
-    if is_short(names, counts, totals) {
-        return Err(Refusal::Lists);
-    }
-    if are_unlike(counts, totals, h.decided) {
-        return Err(Refusal::Record);
-    }
-    Ok(())
+    judge_by(
+        h,
+        &rows.even,
+        &rows.odd,
+        &rows.proposed,
+        names,
+        counts,
+        totals,
+    )
 }

@@ -1,8 +1,8 @@
-// Begin, Receive, Act and Find on a record in its parts: the head by value, and the rows lent. Whoever keeps the parts apart between
-// calls pays for no copy of the record.
-ghost use Rattle.std.specs.Prelude.{◌≡◌};
+// Begin, Receive, Act and Find on a record in its parts: the head by value, and the rows lent, to Find those alone that matter to it.
+// Whoever keeps the parts apart between calls pays for no copy of the record.
+ghost use Rattle.std.specs.Prelude.{◌≡◌, []};
 ghost use Rattle.bench.specs.Calendar.{view_of, place_in, act_at};
-ghost use Rattle.bench.specs.Record.{bench_with, beat_of};
+ghost use Rattle.bench.specs.Record.{bench_from, bench_with, beat_of};
 ghost use Rattle.bench.specs.ByRecord.{begin_of, receive_of, act_of, find_of};
 ghost use Rattle.bench.specs.Answers.{held_with, core_with, offered, BeginGives, ReceiveGives, ActGives, FindGives};
 ghost use Rattle.bench.specs.Support.{SupportGives};
@@ -13,7 +13,7 @@ use super::beginning::begun;
 use super::calendar::act_of;
 use super::counting::read_at;
 use super::filing::take;
-use super::limits::judge;
+use super::limits::{judge, judge_by};
 use super::record::{beat_of, is_idle, is_not_above_last};
 use super::totals::find_in;
 use agreement::{Answer, Given};
@@ -129,28 +129,33 @@ pub fn act(
     }
 }
 
-// Find: where the entry of a number stands in the decided log. Refused: 9, 8, 9 by the totals, 23.
+// Find: where the entry of a number stands in the decided log. The priorities do not matter to it. Refused: 9, 8, 9 by the totals, 23.
 pub fn find(
     h: Head,
-    rows: &Rows,
+    even: &[u8; 32],
+    odd: &[u8; 32],
+    proposed: &[u8; 32],
     names: &[u64],
     counts: &[u16],
     totals: &[u32],
     entry: u32,
 ) -> Result<Entry, Refusal>
-    ensures { FindGives (find_of (held_with (bench_with h rows.now) names.now counts.now totals.now) entry)
-        result names.now counts.now totals.now }
+    ensures { FindGives
+        (find_of (held_with (bench_from h even.now odd.now proposed.now []) names.now
+        counts.now totals.now) entry) result names.now counts.now totals.now }
 {
-    judge(h, rows, names, counts, totals)?;
+    judge_by(h, even, odd, proposed, names, counts, totals)?;
     find_in(totals, h.decided, entry)
 }
 
 // What the act of the head's beat reads of the agreement before; proposals do not matter to it. It is no call: nothing is refused,
 // and nothing changes.
-pub fn support(h: Head, rows: &Rows, names: &[u64], counts: &[u16]) -> Counted
-    ensures { SupportGives (core_with (bench_with h rows.now) names.now counts.now)
-        (view_of (beat_of (bench_with h rows.now))) (act_at (place_in (beat_of (bench_with h rows.now)))) result }
+pub fn support(h: Head, even: &[u8; 32], odd: &[u8; 32], names: &[u64], counts: &[u16]) -> Counted
+    ensures { SupportGives
+        (core_with (bench_from h even.now odd.now [] []) names.now counts.now)
+        (view_of (beat_of (bench_from h even.now odd.now [] [])))
+        (act_at (place_in (beat_of (bench_from h even.now odd.now [] [])))) result }
 {
     let beat = beat_of(h);
-    read_at(h, rows, names, counts, beat / 4, act_of(beat))
+    read_at(h, even, odd, names, counts, beat / 4, act_of(beat))
 }

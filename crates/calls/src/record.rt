@@ -86,13 +86,13 @@ pub(crate) fn marks_of(h: Head, v: u32) -> Marks
     h.odd
 }
 
-pub(crate) fn lengths_of(rows: &Rows, v: u32) -> &[u8; 32]
-    ensures { result.now ≡ pick (is_even v) rows.now.even rows.now.odd }
+pub(crate) fn lengths_of<'a>(even: &'a [u8; 32], odd: &'a [u8; 32], v: u32) -> &'a [u8; 32]
+    ensures { result.now ≡ pick (is_even v) even.now odd.now }
 {
     if is_even(v) {
-        return &rows.even;
+        return even;
     }
-    &rows.odd
+    odd
 }
 
 // The slot's agreement where it is of view v; else of view v nothing is filed.

@@ -1,11 +1,11 @@
 // What an act sees: the log that it uses, by the grade of the agreement before that it reads, and the log it votes for.
-ghost use Rattle.std.specs.Prelude.{◌≡◌, ◌-◌};
+ghost use Rattle.std.specs.Prelude.{◌≡◌, ◌-◌, []};
 ghost use Rattle.agreement.specs.Limits.{place_of};
 ghost use Rattle.agreement.specs.Record.{agreement_from};
 ghost use Rattle.agreement.specs.Grades.{Gives, grade_of};
 ghost use Rattle.agreement.specs.Proposals.{proposals_from, choice_of, Chooses};
 ghost use Rattle.bench.specs.Layout.{logs_place, proposals_place};
-ghost use Rattle.bench.specs.Record.{bench_with, of_view, proposed_in};
+ghost use Rattle.bench.specs.Record.{bench_from, bench_with, of_view, proposed_in};
 ghost use Rattle.bench.specs.ByRecord.{used_of};
 ghost use Rattle.bench.specs.Answers.{core_with};
 ghost use Rattle.bench.specs.Tested.{Usable};
@@ -58,16 +58,18 @@ fn graded(
     None
 }
 
-// The log that the act of a row uses in view v. For view 0 candidate and lock are the empty log, and there is no decision.
+// The log that the act of a row uses in view v. For view 0 candidate and lock are the empty log, and there is no decision. Proposals do
+// not matter to it.
 pub(crate) fn used(
     h: Head,
-    rows: &Rows,
+    even: &[u8; 32],
+    odd: &[u8; 32],
     names: &[u64],
     counts: &[u16],
     v: u32,
     act: Act,
 ) -> Option<Longest>
-    ensures { Gives (used_of (core_with (bench_with h rows.now) names.now counts.now) v (row_of act))
+    ensures { Gives (used_of (core_with (bench_from h even.now odd.now [] []) names.now counts.now) v (row_of act))
         names.now counts.now (logs_place (v - 1)) result }
 {
     let k = grade_read(act)?;
@@ -80,7 +82,7 @@ pub(crate) fn used(
     let before = v - 1;
     graded(
         marks_of(h, before),
-        lengths_of(rows, before),
+        lengths_of(even, odd, before),
         names,
         counts,
         logs_place(before),
@@ -101,7 +103,9 @@ pub(crate) fn seen(
     ensures { Finds (used_of (core_with (bench_with h rows.now) names.now counts.now) v (row_of act))
         names.now counts.now result }
 {
-    let longest = used(h, rows, names, counts, v, act)?;
+    let Some(longest) = used(h, &rows.even, &rows.odd, names, counts, v, act) else {
+        return None;
+    };
     Some(Listed {
         at: place_before(v, longest.sender),
         blocks: longest.blocks,
@@ -136,7 +140,9 @@ pub(crate) fn ballot(h: Head, rows: &Rows, names: &[u64], counts: &[u16], v: u32
     ensures { Finds (ballot_of (core_with (bench_with h rows.now) names.now counts.now) v)
         names.now counts.now result }
 {
-    let lock = seen(h, rows, names, counts, v, Act::Voting)?;
+    let Some(lock) = seen(h, rows, names, counts, v, Act::Voting) else {
+        return None;
+    };
     let Some(j) = best(h, rows, names, counts, v, lock) else {
         return Some(lock);
     };

@@ -1,25 +1,27 @@
 -- Writing words and numbers into the text. Assumes nothing.
-use Prim.Native.Nat.{ℕ, zero, suc, ◌+◌, ◌-◌, ◌/◌, ◌%◌, ◌≤◌, ◌<◌}
+use Prim.Native.Nat.{ℕ, suc, ◌+◌, ◌-◌, ◌/◌, ◌%◌, ◌≤◌, ◌<◌}
+use native.Mathlib.Numerals.{add-one}
 use native.Mathlib.Omega.{arith}
 use mathlib.Core.List.{List, [], ◌∷◌, ◌++◌, append_assoc}
 use mathlib.Core.Path.{◌≡◌, refl, sym, ap, ◌∙◌}
 use borrow.Author.Tests.{lt-ltb, le-ltb, eq-eqb, ne_eqb}
-use lib.ListN.{length, set, take, drop, length-append}
-use borrow.Rule.Slice.PartMut.{put_mid}
+use lib.ListN.{length, get_or, set, drop, length-append}
+use lib.Seq.{drop-cons, drop-length}
 use Rattle.message.specs.Numbers.{put}
-use Rattle.message.proofs.PartLaws.{put_nil, put_cons, put-append, slice_put}
+use Rattle.message.proofs.PartLaws.{put_nil, put_cons, put-append}
 use Rattle.agreement.specs.Sets.{is_yes}
 use Rattle.run.specs.Texts.{ascii, digits, decimal}
 use Rattle.run.specs.RollText.{mark_text, first_line}
 use Rattle.run.specs.RollSteps.{Puts, pair_of}
 
--- ---- a word
+-- ---- a word, byte by byte
 
--- a part of a text that was copied over
-pub word_put : (word : List ℕ) (at : ℕ) (l xs : List ℕ) → xs ≡ word → at + length word ≤ length l
-    → Puts word at l (at + length word) (put_mid at (at + length word - at) l xs)
-word_put word at l xs e h =
-    record { place = refl; text = slice_put l at (length word) xs (ap length e) h ∙ ap (put l at) e }
+module _ (z l word : List ℕ) (p i : ℕ) (e : z ≡ put l p (drop i word)) where
+  pub word_next : (x : ℕ) → i < length word → x ≡ get_or word i 0 → z ≡ put (set l p x) (p + 1) (drop (i + 1) word)
+  word_next x h q = e ∙ rw (add-one i, drop-cons word i 0 h, q) (put_cons l p (get_or word i 0) (drop (suc i) word))
+
+  pub word_end : length word ≤ i → i ≤ length word → l ≡ z
+  word_end h k = let n : i ≡ length word = omega arith in sym (e ∙ rw (n, drop-length word) (put_nil l p))
 
 -- ---- one after the other
 

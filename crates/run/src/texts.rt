@@ -8,9 +8,10 @@ pub(crate) fn put_word(text: &mut [u8], at: usize, word: &[u8]) -> usize
     requires { at + length word.now ≤ length text.old }
     ensures { Puts word.now at text.old result text.new }
 {
-    let end = at + word.len();
-    text[at..end].copy_from_slice(word);
-    end
+    for (i, b) in word.iter().enumerate() {
+        text[at + i] = *b;
+    }
+    at + word.len()
 }
 
 // The two digits of a number below 100, a zero before one digit alone.

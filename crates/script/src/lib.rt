@@ -137,6 +137,10 @@ impl<'a> Clause<'a> {
         ensures value { result.value ≡ number_behind mark self.now.said.now }
         ensures digits { result.digits ≡ min (length (digits_behind mark self.now.said.now)) 255 }
     {
+        // Most marks that are asked for are nowhere in the clause.
+        if mark != NO_MARK && !self.said.contains(&mark) {
+            return Number::NONE;
+        }
         let mut last = NO_MARK;
         let mut number = Number::NONE;
         for b in self.said {

@@ -58,6 +58,7 @@ fn links_and_paths_lead_somewhere() {
         "docs/BENCHMARK.md",
         "docs/CHANGES.md",
         "docs/DESIGN-PASS.md",
+        "docs/LOOK-BACK.md",
         "docs/PORT.md",
         "docs/SKETCHES.md",
         READING,

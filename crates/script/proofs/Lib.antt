@@ -1,0 +1,2 @@
+-- What the proof of `behind` cites.
+mod MarkLaws
